@@ -27,7 +27,7 @@ impl Drop for AreaGuard<'_> {
     fn drop(self)
         ensures { λ _. ⌜ now (self .exit .0) ≡ replicate (length (now (self .entry .area))) 0 ⌝ }
     {
-        let AreaGuard { area } = self;
-        area.fill(0);
+        let AreaGuard { area: held } = self;
+        held.fill(0);
     }
 }
