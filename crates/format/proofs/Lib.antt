@@ -4,3 +4,10 @@ pub mod Alike
 pub mod ByteOrder
 pub mod Decoding
 pub mod Storing
+pub mod Cutting
+pub mod Numbers
+pub mod SecondsTexts
+pub mod Signs
+pub mod Fields
+pub mod Lines
+pub mod Worked

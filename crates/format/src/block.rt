@@ -11,6 +11,7 @@ ghost use Rattle.format.specs.Examples.{Worked-examples};
 use crate::lease::Kind;
 use crate::lease::LeaseRecord;
 use crate::lease::Mark;
+use crate::text::same_text;
 use disk::BLOCK_LENGTH;
 use disk::Refusal;
 
@@ -169,18 +170,12 @@ fn fields(bytes: &[u8]) -> Option<LeaseRecord>
     })
 }
 
-fn same_bytes(a: &[u8], b: &[u8]) -> bool
-    ensures { λ r. ⌜ Decides r (now (a .entry) ≡ now (b .entry)) ⌝ }
-{
-    a == b
-}
-
 fn is_block_of(bytes: &[u8], lease: LeaseRecord) -> bool
     ensures { λ r. ⌜ Decides r (now (bytes .entry) ≡ block-of lease) ⌝ }
 {
     let mut written = [0u8; BLOCK_LENGTH];
     fill_block(lease, &mut written);
-    same_bytes(bytes, &written)
+    same_text(bytes, &written)
 }
 
 // The record that wrote the bytes, if one did: the fields that stand there, if they write the same block again.

@@ -1,5 +1,5 @@
 use Rattle.std.proofs.shelf.Equals.{matches-decides}
-use Rattle.format.proofs.block.same_bytes.Needs as need
+use Rattle.format.proofs.text.same_text.Needs as need
 
 pub returns : need.returns
 returns c = matches-decides _ _ _ (c .eq .ensures)
