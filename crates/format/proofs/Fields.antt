@@ -14,8 +14,8 @@ use Rattle.std.proofs.shelf.Elements.{all-getD, all-from-getD}
 use Rattle.std.proofs.shelf.Decimals.{decimal-reads, same-from-decimal, length-decimal-le}
 use Rattle.std.proofs.shelf.Numerals.{digit-at}
 use Rattle.std.proofs.shelf.Tests.{cases-order, and-parts, eqb-false, not-true, cond-both}
-use Rattle.format.specs.declared.log.Event.{Event}
-use Rattle.format.specs.declared.log.Event.the-variants.{Granted, Renewed, Released, Expired, Crashed}
+use Rattle.format.specs.declared.events.Event.{Event}
+use Rattle.format.specs.declared.events.Event.the-variants.{Granted, Renewed, Released, Expired, Crashed}
 use Rattle.format.specs.Texts.{spaced, number-or-dash, Spaceless}
 use Rattle.format.specs.Logs.{event-word}
 

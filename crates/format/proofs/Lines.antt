@@ -12,9 +12,9 @@ use Rattle.std.proofs.shelf.Lists.{length-append, append-assoc}
 use Rattle.std.proofs.shelf.Decimals.{length-decimal-le, same-from-decimal}
 use Rattle.std.proofs.shelf.Tests.{and-parts, leb-true}
 use Rattle.std.proofs.shelf.Ways.{tells}
-use Rattle.format.specs.declared.log.Event.{Event}
-use Rattle.format.specs.declared.log.Event.the-variants.{Granted, Renewed, Released, Expired, Crashed}
-use Rattle.format.specs.declared.log.LogEntry.{LogEntry}
+use Rattle.format.specs.declared.events.Event.{Event}
+use Rattle.format.specs.declared.events.Event.the-variants.{Granted, Renewed, Released, Expired, Crashed}
+use Rattle.format.specs.declared.events.LogEntry.{LogEntry}
 use Rattle.format.specs.Texts.{spaced, number-or-dash}
 use Rattle.format.specs.Offsets.{near, offset-text}
 use Rattle.format.specs.Logs.{event-word, has-lease, has-until, fits-field, printable, line-text, Lines-differ}

@@ -11,9 +11,9 @@ use Rattle.std.specs.declared.result.Result.{Result}
 use Rattle.std.specs.declared.result.Result.the-variants.{Ok, Err}
 use Rattle.disk.specs.declared.fault.Refusal.{Refusal}
 use Rattle.disk.specs.declared.fault.Refusal.the-variants.{NotALine}
-use Rattle.format.specs.declared.log.Event.{Event}
-use Rattle.format.specs.declared.log.Event.the-variants.{Granted, Renewed, Released, Expired, Crashed}
-use Rattle.format.specs.declared.log.LogEntry.{LogEntry}
+use Rattle.format.specs.declared.events.Event.{Event}
+use Rattle.format.specs.declared.events.Event.the-variants.{Granted, Renewed, Released, Expired, Crashed}
+use Rattle.format.specs.declared.events.LogEntry.{LogEntry}
 use Rattle.format.specs.Texts.{spaced, number-or-dash}
 use Rattle.format.specs.Offsets.{near, offset-text}
 

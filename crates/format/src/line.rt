@@ -12,8 +12,8 @@ ghost use Rattle.format.specs.Logs.{event-word, has-lease, has-until, fits-fie
 use crate::buffer::LineBuffer;
 use crate::clock::Tick;
 use crate::decimal::read_decimal;
-use crate::log::Event;
-use crate::log::LogEntry;
+use crate::events::Event;
+use crate::events::LogEntry;
 use crate::offset::candidate_offset;
 use crate::offset::is_offset;
 use crate::offset::push_offset;

@@ -4,8 +4,8 @@ use mathlib.Core.List.{List}
 use Prim.Native.Nat.{ℕ}
 use Rattle.std.specs.Orderings.{Decides}
 use Rattle.std.proofs.shelf.Tests.{false≢true}
-use Rattle.format.specs.declared.log.Event.{Event}
-use Rattle.format.specs.declared.log.Event.the-variants.{Granted, Renewed, Released, Expired, Crashed}
+use Rattle.format.specs.declared.events.Event.{Event}
+use Rattle.format.specs.declared.events.Event.the-variants.{Granted, Renewed, Released, Expired, Crashed}
 use Rattle.format.specs.Logs.{event-word}
 use Rattle.format.proofs.Fields.{same-event}
 use Rattle.format.proofs.line.event_in.Needs as need

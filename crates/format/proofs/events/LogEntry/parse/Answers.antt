@@ -5,7 +5,7 @@ use mir.Val.{SFits}
 use Rattle.std.proofs.shelf.Signed.{toZ-ofZ}
 use Rattle.std.proofs.shelf.Tests.{false≢true}
 use Rattle.format.specs.Logs.{printable, line-text}
-use Rattle.format.proofs.log.LogEntry.parse.Needs as need
+use Rattle.format.proofs.events.LogEntry.parse.Needs as need
 
 pub returns-then-not-is-printable : need.returns-then-not-is-printable
 returns-then-not-is-printable c =
