@@ -1,0 +1,14 @@
+pub mod Limits
+pub mod Room
+pub mod Outcomes
+pub mod Seats
+pub mod Steps
+pub mod Claiming
+pub mod Holding
+pub mod Writes
+pub mod Hosts
+pub mod Setup
+pub mod Calls
+pub mod Soundness
+pub mod View
+pub mod Moves
