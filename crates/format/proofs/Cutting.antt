@@ -1,15 +1,19 @@
 -- Texts that are made piece by piece and cut at the length of a line buffer.
 use mathlib.Core.Path.{_≡_, refl, sym, ap, _∙_}
+use mathlib.Core.Bool.{Bool, true, false, cond}
 use mathlib.Core.List.{List, [], _∷_, _++_}
 use mathlib.Core.Logic.{inl, inr}
 use Prim.Native.Nat.{ℕ, _+_, _<_, _≤_, _/_, _%_, _^_}
 use native.Mathlib.Omega.{arith}
+use lib.Dec.{leb}
 use lib.ListN.{length, take, set}
 use Rattle.std.specs.Written.{decimal}
 use Rattle.std.proofs.shelf.Lists.{take-all, take-append-le, take-more-set, length-take, length-take-le, length-append, append-assoc, append-nil}
 use Rattle.std.proofs.shelf.Decimals.{decimal-digit, decimal-step}
-use Rattle.std.proofs.shelf.Tests.{cases-lt}
-use Rattle.format.specs.Texts.{cut}
+use Rattle.std.proofs.shelf.Tests.{cases-lt, leb-true}
+use Rattle.std.specs.declared.result.Result.the-variants.{Ok, Err}
+use Rattle.disk.specs.declared.fault.Refusal.the-variants.{BufferShort}
+use Rattle.format.specs.Texts.{cut, print-answer}
 
 -- a text that was cut, and goes on
 cut-append : (n : ℕ) (a b : List ℕ) → take n (take n a ++ b) ≡ take n (a ++ b)
@@ -53,3 +57,12 @@ one-digit t u n h p = p ∙ ap (λ w. cut (t ++ w)) (sym (decimal-digit n h))
 
 pub more-digits : (t u v : List ℕ) (n : ℕ) → 10 ≤ n → n < 2 ^ 32 → u ≡ cut (t ++ decimal (n / 10)) → v ≡ cut (u ++ (48 + n % 10) ∷ []) → v ≡ cut (t ++ decimal n)
 more-digits t u v n h f p q = two t u v (decimal (n / 10)) ((48 + n % 10) ∷ []) p q ∙ ap (λ w. cut (t ++ w)) (sym (decimal-step n h (omega arith)))
+
+-- what is printed fits the buffer
+pub printed-fits : (good : Bool) (text : List ℕ) (size n : ℕ) → Ok n ≡ print-answer good text size → n ≤ size
+printed-fits true text size n e = fits (leb (length text) size) refl e
+  where
+    fits : (b : Bool) → leb (length text) size ≡ b → Ok n ≡ cond b (Ok (length text)) (Err BufferShort) → n ≤ size
+    fits true l e = let same : n ≡ length text = cc in omega (arith, leb-true (length text) size l)
+    fits false l e = absurd (let z : _≡_ {A = ℕ} 0 1 = cc in omega arith)
+printed-fits false text size n e = absurd (let z : _≡_ {A = ℕ} 0 1 = cc in omega arith)

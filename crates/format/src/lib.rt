@@ -16,6 +16,7 @@ pub use clock::Tick;
 pub use decimal::read_decimal;
 pub use events::Event;
 pub use events::LogEntry;
+pub use events::LogEntryPartialEq;
 pub use lease::Kind;
 pub use lease::LeaseRecord;
 pub use lease::Mark;

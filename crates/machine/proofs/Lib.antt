@@ -21,3 +21,4 @@ pub mod Writes
 pub mod Hosts
 pub mod Opens
 pub mod Runs
+pub mod Published

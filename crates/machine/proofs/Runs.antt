@@ -21,6 +21,7 @@ use Rattle.machine.specs.Calls.{Call, set-clock, open-room, tick, try, check, 
 use Rattle.machine.specs.Limits.{Bounded}
 use Rattle.machine.specs.Soundness.{Never-stolen, fresh-world, Holds, Exclusive, Grants, Rising, Vacant-before, Log-agrees, Stays-sound, entries}
 use Rattle.machine.specs.View.{held, placed, asked, ticked, view}
+use Rattle.machine.specs.Moves.{Every-call-moves}
 use Rattle.machine.proofs.Clash.{clash}
 use Rattle.machine.proofs.Core.{Held-until}
 use Rattle.machine.proofs.Times.{until-tick, tick-until}
@@ -165,7 +166,11 @@ rising w i before between first later r s t a b =
 pub stays-sound : Stays-sound
 stays-sound s d log =
     let w : World = fresh-world s d log in
-    let i = founded-inv s d log in
-    ( λ calls. let v = after w calls in let n = run-kept w i calls .inv in record { exclusive = exclusive v n; vacant = vacant-before v n; agrees = agrees v n; confirmed = never-stolen v n },
+    let i = founded-inv s d log in (
+      λ calls. let v = after w calls in let n = run-kept w i calls .inv in record { exclusive = exclusive v n; vacant = vacant-before v n; agrees = agrees v n; confirmed = never-stolen v n },
       rising w i,
     )
+
+-- and every call is a move
+pub every-call-moves : Every-call-moves
+every-call-moves s d log calls c = perform-kept (after (fresh-world s d log) calls) (run-kept (fresh-world s d log) (founded-inv s d log) calls .inv) c .moved

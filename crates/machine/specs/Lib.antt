@@ -12,3 +12,4 @@ pub mod Calls
 pub mod Soundness
 pub mod View
 pub mod Moves
+pub mod Examples

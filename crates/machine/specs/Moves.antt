@@ -16,6 +16,7 @@ use Rattle.format.specs.declared.events.Event.the-variants as events
 use Rattle.format.specs.declared.events.LogEntry.{LogEntry}
 use Rattle.disk.specs.Model.{DiskModel}
 use Rattle.format.specs.Blocks.{founding}
+use Rattle.machine.specs.Room.{World}
 use Rattle.machine.specs.Calls.{Call, after, perform}
 use Rattle.machine.specs.Soundness.{fresh-world}
 use Rattle.machine.specs.View.{watching, nobody, view, Asked, Place, idle, claimed, held, View, In, named-by, grant-of, claim-record}
@@ -122,9 +123,8 @@ pub data Move (s : Settings) (V W : View) : Type 0 where
       → ((e : Flight) → In e (W .flights) → In e (V .flights) × (e .body .mark ≡ f .body .mark → ⊥))
       → ((q : ℕ) → ((q ≡ f .body .resource) × (W .block q ≡ Some (f .body))) ⊎ (W .block q ≡ V .block q)) → Move s V W
 
-
--- every call that is made of a room after any run is one of these moves
+-- a call that is made of a room after any run is one of these moves
 abbrev pub Every-call-moves : Type 0
 Every-call-moves =
     (s : Settings) (d : DiskModel) (log : List LogEntry) (calls : List Call) (c : Call)
-    → Move s (view (after (fresh-world s d log) calls)) (view (perform c (after (fresh-world s d log) calls) .world))
+    → (let w : World = after (fresh-world s d log) calls in Move (w .room .settings) (view w) (view (perform c w .world)))

@@ -6,12 +6,7 @@ use disk::Refusal;
 
 impl Settings {
     // Settings within their bounds; any other numbers are refused.
-    pub fn new(
-        hosts: usize,
-        resources: usize,
-        delay: u32,
-        lease: u32,
-    ) -> Result<Settings, Refusal>
+    pub fn new(hosts: usize, resources: usize, delay: u32, lease: u32) -> Result<Settings, Refusal>
         ensures { λ r. ⌜ Makes-settings hosts resources delay lease r ⌝ }
     {
         if hosts < 1 || hosts > 16 {

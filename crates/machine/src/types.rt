@@ -60,10 +60,7 @@ pub enum Tried {
 // What a check answers: the lease with its term, until a reading of the host's clock, or that the claim was overwritten.
 #[derive(Clone, Copy)]
 pub enum Checked {
-    Granted {
-        term: u32,
-        until: Reading,
-    },
+    Granted { term: u32, until: Reading },
     Stolen,
 }
 
@@ -80,9 +77,6 @@ pub enum Answer {
     Done,
     Issued(Mark),
     Watching,
-    Granted {
-        term: u32,
-        until: Reading,
-    },
+    Granted { term: u32, until: Reading },
     Stolen,
 }

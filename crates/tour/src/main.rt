@@ -1,5 +1,7 @@
-// A worn disk tells its story: the records of four resources are formatted, one is claimed and read back, one access
-// needs its retries, others are refused. Every step prints a line.
+// The library at work, a line for each step: on a worn disk the records of four resources are formatted, one is claimed
+// and read back, one access needs its retries, others are refused; log lines are printed and read back; deadlines fall
+// due.
+mod history;
 mod show;
 
 use disk::BLOCK_LENGTH;
@@ -16,6 +18,8 @@ use format::LeaseRecord;
 use format::Mark;
 use format::read_record;
 use format::write_record;
+use history::tell_deadlines;
+use history::tell_log;
 use show::show_area;
 use show::show_block;
 use show::show_read;
@@ -89,5 +93,7 @@ fn main(rt: LibcRuntime) -> io::Result<()> {
         tell(&rt, &mut disk, &mut area)?;
     }
     show_tally(&rt, "after", 3, tallies[3])?;
-    show_tally(&rt, "after", 5, tallies[5])
+    show_tally(&rt, "after", 5, tallies[5])?;
+    tell_log(&rt)?;
+    tell_deadlines(&rt)
 }

@@ -7,6 +7,8 @@ use disk::Fault;
 use disk::Tally;
 use format::Kind;
 use format::LeaseRecord;
+use format::LogEntry;
+use format::LogEntryPartialEq;
 use std::io;
 
 // The bytes of a block that hold its record.
@@ -23,7 +25,7 @@ fn show_fault(rt: &impl Print, what: &str, resource: usize, fault: Fault) -> io:
 }
 
 // How a write went.
-pub fn show_written(
+pub(crate) fn show_written(
     rt: &impl Print,
     what: &str,
     resource: u8,
@@ -36,7 +38,7 @@ pub fn show_written(
 }
 
 // What was read.
-pub fn show_read(
+pub(crate) fn show_read(
     rt: &impl Print,
     resource: usize,
     seen: Result<LeaseRecord, Fault>,
@@ -59,7 +61,7 @@ pub fn show_read(
 }
 
 // The bytes that hold a record, as they stand in its block.
-pub fn show_block(rt: &impl Print, lease: LeaseRecord) -> io::Result<()> {
+pub(crate) fn show_block(rt: &impl Print, lease: LeaseRecord) -> io::Result<()> {
     let mut area = [0u8; BLOCK_LENGTH];
     let _ = lease.encode(&mut area);
     print!(rt, "block of the claim:")?;
@@ -83,15 +85,47 @@ fn zeros_in(bytes: &[u8]) -> usize
 }
 
 // What the area holds after a read.
-pub fn show_area(rt: &impl Print, area: &[u8]) -> io::Result<()> {
+pub(crate) fn show_area(rt: &impl Print, area: &[u8]) -> io::Result<()> {
     let zeros = zeros_in(area);
     let length = area.len();
     println!(rt, "  area: {zeros} of {length} bytes are zero")
 }
 
 // How much wear a block of the image has left.
-pub fn show_tally(rt: &impl Print, when: &str, block: usize, tally: Tally) -> io::Result<()> {
+pub(crate) fn show_tally(
+    rt: &impl Print,
+    when: &str,
+    block: usize,
+    tally: Tally,
+) -> io::Result<()> {
     let good = tally.good;
     let due = tally.due;
     println!(rt, "{when}, block {block}: good {good}, due {due}")
+}
+
+// The line of a log entry, and whether it reads back as the entry and the offset.
+pub(crate) fn show_line(rt: &impl Print, entry: LogEntry, offset: i32) -> io::Result<()> {
+    let mut buffer = [0u8; 64];
+    let length = match entry.print(offset, &mut buffer) {
+        Ok(length) => length,
+        Err(refusal) => {
+            let number = refusal.number();
+            return println!(rt, "log line refused {number}");
+        }
+    };
+    let line = &buffer[0..length];
+    for byte in line {
+        let letter = char::from(*byte);
+        print!(rt, "{letter}")?;
+    }
+    match LogEntry::parse(line) {
+        Ok((again, back)) => {
+            let same = again == entry && back == offset;
+            println!(rt, "  reads back: {same}")
+        }
+        Err(refusal) => {
+            let number = refusal.number();
+            println!(rt, "  refused {number}")
+        }
+    }
 }

@@ -1,5 +1,6 @@
-use Rattle.machine.proofs.Runs.{stays-sound}
+use Rattle.machine.proofs.Published.{published-examples}
+use Rattle.machine.proofs.Runs.{stays-sound, every-call-moves}
 use Rattle.machine.proofs.soundness.stays_sound.Needs as need
 
 pub returns : need.returns
-returns c = stays-sound
+returns c = record { sound = stays-sound; moves = every-call-moves; examples = published-examples }

@@ -1,0 +1,5 @@
+pub mod Schedule
+pub mod Sorted
+pub mod Holdings
+pub mod Waiting
+pub mod Runs
