@@ -78,7 +78,7 @@ checked-fair w h r x y i t c room early soon b =
     record {
       kept = logged-turn w h r (seats.Held (x .term) (record { 0 = x .issued +ℤ pos L }) None) (held (x .term) (n + L) None) i t
           (later-ticks o (x .issued) L (p .1), p .2, p .3, tt) (ap (λ (z : ℕ). held (x .term) z None) until) e room
-          (λ turn l u. Move.grants h r (x .mark) (x .term) n (m .tick) turn (subst (Logged (view w) (view v)) (ap (note (m .tick) events.Granted h r (x .term)) told) l) u (p .0) stands-there
+          (λ turn l u. Move.grants h r (x .mark) (x .term) n turn (subst (Logged (view w) (view v)) (ap (note (m .tick) events.Granted h r (x .term)) told) l) u (p .0) stands-there
           (not-early o (x .issued) (m .tick) (check-wait m) (p .1) early) (not-late o (x .issued) (m .tick) L (p .1) soon));
       grant = λ s u a. let same-term : x .term ≡ s = cc in subst (Grant w v r) same-term (record {
         above = i .core .claim-top (p .0) (landed stands-there);
@@ -87,7 +87,7 @@ checked-fair w h r x y i t c room early soon b =
       });
     })
     (λ _. record {
-      kept = seat-turn w h r seats.Idle idle i t tt refl (λ turn l u. Move.leaves h r (x .mark) (x .term) n turn l u (p .0));
+      kept = seat-turn w h r seats.Idle idle i t tt refl (λ turn l u. Move.leaves h r (x .mark) (x .term) n turn l u (p .0) (not-early o (x .issued) (m .tick) (check-wait m) (p .1) early));
       grant = λ s u a. clash (cc);
     })
 
@@ -145,7 +145,7 @@ confirmed-kept w h r x a y i t c pending room soon b =
     (λ same. record {
       kept = logged-turn w h r (seats.Held (x .term) (record { 0 = a .issued .0 +ℤ pos L }) None) (held (x .term) (n + L) None) i t
           (later-ticks o (a .issued .0) L whole, p .2, p .3, tt) (ap (λ (z : ℕ). held (x .term) z None) until) e room
-          (λ turn l u. Move.confirms h r (x .term) (ticked o (x .until)) (m .tick) (record { mark = a .mark; at = n }) y turn (subst (Logged (view w) (view v)) (ap (note (m .tick) events.Renewed h r (x .term)) told) l) u
+          (λ turn l u. Move.confirms h r (x .term) (ticked o (x .until)) (record { mark = a .mark; at = n }) y turn (subst (Logged (view w) (view v)) (ap (note (m .tick) events.Renewed h r (x .term)) told) l) u
           was late b (mark-same (y .mark) (a .mark) same));
       not-stolen = λ q. clash (cc);
     })

@@ -23,7 +23,7 @@ use Rattle.machine.specs.View.{placed, view}
 use Rattle.machine.specs.Moves.{Move}
 use Rattle.machine.proofs.Frames.{at-set, unless-elim}
 use Rattle.machine.proofs.Shape.{Whole, Shape, Inv, Kept}
-use Rattle.machine.proofs.Kept.{kept-by, kept-same, logged-of}
+use Rattle.machine.proofs.Kept.{kept-by, kept-same, logged-of, shut-untouched}
 
 -- there are at most 16 hosts
 few-of : (w : World) (h : ℕ) → Inv w → not (ltb h (w .room .settings .hosts)) ≡ false → h < 16
@@ -72,9 +72,9 @@ module _ (w : World) (h : ℕ) (i : Inv w) (o : w .room .opened ≡ true) (few :
   }
 
   -- a crash is a move
-  crashed-kept : leb (length (w .log)) (w .room .logged) ≡ false → Kept w crashed
+  crashed-kept : host-at (w .room) h .up ≡ true → leb (length (w .log)) (w .room .logged) ≡ false → Kept w crashed
   unfolding view
-  crashed-kept room = kept-by w crashed i crashed-shape refl (Move.crashes h (w .room .tick) refl (crashed-same (λ x. x .generation) refl) (crashed-same (λ x. x .stamp) refl)
+  crashed-kept up room = kept-by w crashed i crashed-shape refl (Move.crashes h up (elim (crashed-at h) [ inl d ↦ ap (λ (x : Host). x .up) (d .1) | inr d ↦ absurd (d .0 refl) ]) refl (crashed-same (λ x. x .generation) refl) (crashed-same (λ x. x .stamp) refl)
       (λ g q. elim (crashed-row g) [
         | inl d ↦ inl (d .0, ap (placed (host-at (crashed .room) g .offset)) (ap (λ (ys : List Seat). getD ys q seats.Idle) (d .1) ∙ idle-row q))
         | inr d ↦ inr (
@@ -90,7 +90,7 @@ pub crash-kept : (w : World) (h : ℕ) → Inv w → Kept w (crash-call w h .wor
 crash-kept w h i =
     let m = w .room in
     unless-elim (λ (y : Outcome (Unit {0})). Kept w (y .world)) w _ (crash-tests w h) (λ _. kept-same w i)
-    (λ f. crashed-kept w h i (not-false (m .opened) (f .0)) (few-of w h i (f .1 .0)) (f .1 .1 .1 .0))
+    (λ f. crashed-kept w h i (not-false (m .opened) (f .0)) (few-of w h i (f .1 .0)) (not-false (host-at m h .up) (f .1 .1 .0)) (f .1 .1 .1 .0))
 
 -- one host is another, and nothing else
 module _ (w : World) (h : ℕ) (x : Host) (i : Inv w) (few : h < 16) where
@@ -100,6 +100,17 @@ module _ (w : World) (h : ℕ) (x : Host) (i : Inv w) (few : h < 16) where
   -- each host after it
   hosted-at : (g : ℕ) → ((g ≡ h) × (host-at (hosted .room) g ≡ x)) ⊎ ((g ≡ h → ⊥) × (host-at (hosted .room) g ≡ host-at (w .room) g))
   hosted-at g = at-set (w .room .hosts) h x no-host (omega (arith, i .shape .hosts)) g
+
+  -- a part of this host, and of each other one
+  hosted-here : {A : Type 0} (f : Host → A) → f (host-at (hosted .room) h) ≡ f x
+  hosted-here f = elim (hosted-at h) [ inl d ↦ ap f (d .1) | inr d ↦ absurd (d .0 refl) ]
+
+  hosted-else : {A : Type 0} (f : Host → A) (g : ℕ) → (g ≡ h → ⊥) → f (host-at (hosted .room) g) ≡ f (host-at (w .room) g)
+  hosted-else f g n = elim (hosted-at g) [ inl d ↦ absurd (n (d .0)) | inr d ↦ ap f (d .1) ]
+
+  -- a part that stays as it was
+  hosted-same : {A : Type 0} (f : Host → A) → f x ≡ f (host-at (w .room) h) → (g : ℕ) → f (host-at (hosted .room) g) ≡ f (host-at (w .room) g)
+  hosted-same f e g = elim (hosted-at g) [ inl d ↦ ap f (d .1) ∙ e ∙ ap (λ (n : ℕ). f (host-at (w .room) n)) (sym (d .0)) | inr d ↦ ap f (d .1) ]
 
   -- the lists keep their shape
   hosted-shape : (1 ≤ x .generation) × (x .generation < 65536) → ((g q : ℕ) → Whole (host-at (hosted .room) g .offset) (seat-at (w .room) g q)) → Shape hosted
@@ -124,18 +135,12 @@ restarted-kept w h i few down young =
     let m = w .room in
     let x : Host = record { offset = host-at m h .offset; up = true; generation = host-at m h .generation + 1; stamp = 0 } in
     let v = hosted w h x i few in
-    let at = hosted-at w h x i few in
-    let offset : (g : ℕ) → host-at (v .room) g .offset ≡ host-at m g .offset = λ g. elim (at g) [ inl d ↦ ap (λ (y : Host). y .offset) (d .1) ∙ ap (λ (n : ℕ). host-at m n .offset) (sym (d .0)) | inr d ↦ ap (λ (y : Host). y .offset) (d .1) ] in
+    let offset = hosted-same w h x i few (λ y. y .offset) refl in
     let seats : (g q : ℕ) → placed (host-at (v .room) g .offset) (seat-at m g q) ≡ placed (host-at m g .offset) (seat-at m g q) = λ g q. ap (λ (z : ℤ). placed z (seat-at m g q)) (offset g) in
     kept-by w v i
     (hosted-shape w h x i few (omega arith, omega (arith, leb-false 65535 (host-at m h .generation) young)) (λ g q. subst (λ (z : ℤ). Whole z (seat-at m g q)) (sym (offset g)) (i .shape .whole g q))) refl
-    (Move.fades (omega arith) (λ f n. (n, i .core .flight-time n .1)) seats (λ q. inl refl)
-    (λ g e. elim (at g) [ inl d ↦ absurd (both-ways (host-at (v .room) g .up) e (ap (λ (y : Host). y .up) (d .1))) | inr d ↦ sym (ap (λ (y : Host). y .up) (d .1)) ∙ e ])
-    (λ g. elim (at g) [
-      | inl d ↦ inr (omega (arith, ap (λ (y : Host). y .generation) (d .1), ap (λ (n : ℕ). host-at m n .generation) (d .0)), λ r. seats g r ∙ i .core .down-idle {h = g} {r = r} (ap (λ (n : ℕ). host-at m n .up) (d .0) ∙ down))
-      | inr d ↦ inl (ap (λ (y : Host). y .generation) (d .1), omega (arith, ap (λ (y : Host). y .stamp) (d .1)))
-    ])
-    (record { names = λ q. refl; tops = λ q. refl }))
+    (Move.returns h down (hosted-here w h x i few (λ y. y .up)) (hosted-here w h x i few (λ y. y .generation)) (hosted-here w h x i few (λ y. y .stamp))
+    (record { ups = hosted-else w h x i few (λ y. y .up); gens = hosted-else w h x i few (λ y. y .generation); stamps = hosted-else w h x i few (λ y. y .stamp) }) refl seats (λ q. refl) (record { names = λ q. refl; tops = λ q. refl }) (record { flights = λ n. n }))
 
 -- restart keeps a room
 pub restart-kept : (w : World) (h : ℕ) → Inv w → Kept w (restart-call w h .world)
@@ -152,16 +157,18 @@ clocked-kept w h z i few shut =
     let m = w .room in
     let x : Host = record { offset = z; up = host-at m h .up; generation = host-at m h .generation; stamp = host-at m h .stamp } in
     let v = hosted w h x i few in
-    let at = hosted-at w h x i few in
     let none = i .shape .closed shut .seats in
     kept-by w v i (hosted-shape w h x i few (i .shape .aged h few) (λ g q. subst (Whole (host-at (v .room) g .offset)) (sym (none g q)) tt)) refl
-    (Move.fades (omega arith) (λ f n. (n, i .core .flight-time n .1)) (λ g q. ap (placed (host-at (v .room) g .offset)) (none g q) ∙ sym (ap (placed (host-at m g .offset)) (none g q))) (λ q. inl refl)
-    (λ g e. elim (at g) [ inl d ↦ ap (λ (n : ℕ). host-at m n .up) (d .0) ∙ sym (ap (λ (y : Host). y .up) (d .1)) ∙ e | inr d ↦ sym (ap (λ (y : Host). y .up) (d .1)) ∙ e ])
-    (λ g. inl (elim (at g) [
-      | inl d ↦ (ap (λ (y : Host). y .generation) (d .1) ∙ ap (λ (n : ℕ). host-at m n .generation) (sym (d .0)), omega (arith, ap (λ (y : Host). y .stamp) (d .1), ap (λ (n : ℕ). host-at m n .stamp) (d .0)))
-      | inr d ↦ (ap (λ (y : Host). y .generation) (d .1), omega (arith, ap (λ (y : Host). y .stamp) (d .1)))
-    ]))
-    (record { names = λ q. refl; tops = λ q. refl }))
+    (Move.sets (shut-untouched w (i .shape .closed shut))
+    (record {
+      tick = refl;
+      ups = hosted-same w h x i few (λ y. y .up) refl;
+      gens = hosted-same w h x i few (λ y. y .generation) refl;
+      stamps = hosted-same w h x i few (λ y. y .stamp) refl;
+      seats = λ g q. ap (placed (host-at (v .room) g .offset)) (none g q) ∙ sym (ap (placed (host-at m g .offset)) (none g q));
+      unlogged = record { names = λ q. refl; tops = λ q. refl };
+    })
+    (record { flights = λ n. n }) (λ q. refl))
 
 -- set clock keeps a room
 pub set-clock-kept : (w : World) (h : ℕ) (z : ℤ) → Inv w → Kept w (set-clock-call w h z .world)

@@ -1,6 +1,6 @@
 -- What a move of the machine keeps: the pieces that the calls share.
 use mathlib.Core.Path.{_≡_, refl, sym, ap, subst, fun-ext, _∙_}
-use mathlib.Core.Bool.{true, false, cond, _&&_}
+use mathlib.Core.Bool.{Bool, true, false, cond, _&&_}
 use mathlib.Core.List.{List, [], _∷_, _++_}
 use mathlib.Core.Logic.{_⊎_, inl, inr}
 use Prim.Native.Nat.{ℕ, _+_, _≤_, _<_}
@@ -29,14 +29,14 @@ use Rattle.machine.proofs.Blocks.{answer-is, answer-write-is, area-is, read-lo
 use Rattle.machine.specs.Room.{Room, World, no-host, host-at, at-room, with-disk}
 use Rattle.machine.specs.Outcomes.{Outcome, then}
 use Rattle.machine.specs.Steps.{next-mark, judged-by, reading-block, writing-block}
-use Rattle.machine.specs.View.{View, record-by, record-of, view, In, owner, nobody, highest, record-at}
+use Rattle.machine.specs.View.{placed as placed-seat, View, record-by, record-of, view, In, owner, nobody, highest, record-at}
 use Rattle.machine.specs.Soundness.{entries}
-use Rattle.machine.specs.Moves.{Logged, Sent, Move}
+use Rattle.machine.specs.Moves.{Logged, Sent, Still, Untouched, Move}
 use Rattle.machine.proofs.Core.{Core}
 use Rattle.machine.proofs.Keeps.{new-known}
 use Rattle.machine.proofs.Made.{move-keeps, move-tops}
 use Rattle.machine.proofs.Frames.{at-set, Apart, in-push, apart-push, owner-push, highest-push, read-bytes}
-use Rattle.machine.proofs.Shape.{Shape, Inv, Kept, Stand, few-hosts, few-resources, one-stamp, stamped}
+use Rattle.machine.proofs.Shape.{Closed, Shape, Inv, Kept, Stand, few-hosts, few-resources, one-stamp, stamped}
 
 -- a move keeps what every room keeps
 pub kept-by : (w v : World) → Inv w → Shape v → w .room .settings ≡ v .room .settings → Move (w .room .settings) (view w) (view v) → Kept w v
@@ -65,6 +65,25 @@ unfolding view
 same-view w d same =
     ap (λ (b : ℕ → Option LeaseRecord). record { tick = view w .tick; up = view w .up; gen = view w .gen; stamp = view w .stamp; seat = view w .seat; block = b; flights = view w .flights; named = view w .named; top = view w .top })
     (fun-ext same)
+
+-- another disk and other flights, perhaps in an open room: tick, hosts and seats stay, and nothing is logged
+pub still-of : (w : World) (d : DiskModel) (opened : Bool) (fs : List Flight)
+    → Still (view w) (view (let m = w .room in record { room = record { settings = m .settings; disk = d; opened = opened; tick = m .tick; hosts = m .hosts; seats = m .seats; flights = fs; logged = m .logged }; log = w .log }))
+unfolding view
+still-of w d opened fs = record { tick = refl; ups = λ h. refl; gens = λ h. refl; stamps = λ h. refl; seats = λ h r. refl; unlogged = record { names = λ q. refl; tops = λ q. refl } }
+
+-- in a closed room nothing has happened yet
+pub shut-untouched : (w : World) → Closed w → Untouched (view w)
+unfolding view
+shut-untouched w c = record {
+  seats = λ h r. ap (placed-seat (host-at (w .room) h .offset)) (c .seats h r);
+  flights = λ {f} i. none f (subst (In f) (c .flights) i);
+  tops = λ r. ap (λ (n : ℕ). highest 0 (take n (w .log)) r) (c .logged);
+  names = λ r. ap (λ (n : ℕ). owner nobody (take n (w .log)) r) (c .logged);
+}
+  where
+    none : (f : Flight) → In f [] → ⊥
+    none f i = elim i [ ]
 
 -- one more entry in the log
 pub logged-of : (w v : World) (e : LogEntry) → leb (length (w .log)) (w .room .logged) ≡ false → entries v ≡ take (w .room .logged + 1) (set (w .log) (w .room .logged) e) → Logged (view w) (view v) e
@@ -142,10 +161,9 @@ module _ (w : World) (d : DiskModel) (i : Inv w) (o : w .room .opened ≡ true) 
     closed = λ e. absurd (both-ways (w .room .opened) e o);
   }
 
-  -- where each block reads as before, or as nothing, the room is kept
-  pub disk-kept : ((q : ℕ) → (record-at (disk-world .room) q ≡ record-at (w .room) q) ⊎ (record-at (disk-world .room) q ≡ None)) → Kept w disk-world
-  unfolding view
-  disk-kept same = kept-by w disk-world i disk-shape refl (Move.fades (omega arith) (λ f n. (n, i .core .flight-time n .1)) (λ h r. refl) same (λ h e. e) (λ h. inl (refl, omega arith)) (record { names = λ q. refl; tops = λ q. refl }))
+  -- where each block reads as before, the room is kept
+  pub disk-kept : ((q : ℕ) → record-at (disk-world .room) q ≡ record-at (w .room) q) → Kept w disk-world
+  disk-kept same = kept-by w disk-world i disk-shape refl (Move.rests (same-view w d same))
 
 -- block r reads as what its bytes say
 pub record-here : (m : Room) (r : ℕ) → m .opened ≡ true → r < m .settings .resources → record-at m r ≡ record-of (block (m .disk) r .bytes)

@@ -17,7 +17,7 @@ use Rattle.format.specs.declared.events.LogEntry.{LogEntry}
 use Rattle.format.specs.declared.events.Event.the-variants as events
 use Rattle.machine.proofs.Clash.{clash}
 use Rattle.machine.specs.View.{watching, Asked, idle, claimed, held, lasting, View, In, claim-record}
-use Rattle.machine.specs.Moves.{vacant, Turn, Unlogged, Logged, note, Unsent, Sent, Open, Move}
+use Rattle.machine.specs.Moves.{vacant, Turn, Unlogged, Logged, note, Unsent, Sent, Open, Still, Gone, Unwritten, Changed, Move}
 use Rattle.machine.proofs.Core.{landed, Ours, Known, New, Core}
 use Rattle.machine.proofs.Step.{Claims, kept, renewing, renewed, granted, Granting, Step}
 use Rattle.machine.proofs.Keeps.{step-keeps}
@@ -307,29 +307,55 @@ module _ (s : Settings) (V W : View) (c : Core s V) where
     downs = λ {h} {r} e. seats h r ∙ c .down-idle (sym (ups h) ∙ e);
   }
 
+-- what keeps the seats and loses nothing but writes
+still-step : (s : Settings) (V W : View) (c : Core s V) → Still V W → Unsent V W
+    → ((r : ℕ) → (W .block r ≡ V .block r) ⊎ (W .block r ≡ None)) → Step s V W
+still-step s V W c t n blocks =
+    fades-step s V W c (omega (arith, t .tick)) (λ f i. (n .flights i, omega (arith, t .tick, c .flight-time (n .flights i) .1))) (t .seats) blocks
+    (λ h e. sym (t .ups h) ∙ e) (λ h. inl (t .gens h, omega (arith, t .stamps h))) (t .unlogged)
+
+-- a host that was down comes back
+returns-step : (s : Settings) (V W : View) (c : Core s V) (h : ℕ) → V .up h ≡ false → W .up h ≡ true → W .gen h ≡ V .gen h + 1 → Changed V W h → W .tick ≡ V .tick
+    → ((g q : ℕ) → W .seat g q ≡ V .seat g q) → Unwritten V W → Unlogged V W → Unsent V W → Step s V W
+returns-step s V W c h down up next others now seats blocks l n =
+    fades-step s V W c (omega arith) (λ f i. (n .flights i, omega (arith, c .flight-time (n .flights i) .1))) seats (λ q. inl (blocks q))
+    (λ g e. elim (cases-eq g h) [
+      | inl d ↦ absurd (both-ways (W .up h) (ap (W .up) (sym d) ∙ e) up)
+      | inr d ↦ sym (others .ups g d) ∙ e
+    ])
+    (λ g. elim (cases-eq g h) [
+      | inl d ↦ inr (omega (arith, ap (V .gen) d, ap (W .gen) d), λ q. seats g q ∙ c .down-idle (ap (V .up) d ∙ down))
+      | inr d ↦ inl (others .gens g d, omega (arith, others .stamps g d))
+    ]) l
+
 -- so every move keeps the core
 pub move-keeps : (s : Settings) (V W : View) → Core s V → Move s V W → Core s W
 move-keeps s V W c (Move.rests e) = subst (Core s) (sym e) c
-move-keeps s V W c (Move.opens a b known) =
+move-keeps s V W c (Move.sets a t n blocks) = step-keeps s V W c (still-step s V W c t n (λ r. inl (blocks r)))
+move-keeps s V W c (Move.opens a t n known old) =
     quiet-core s W
     (record {
-      seats = b .seats;
-      flights = b .flights;
-      tops = b .tops;
-      names = b .names;
-      known = λ {r} {y} e. let k = known r y e in subst (λ (z : LeaseRecord). Known W (z .mark)) (sym (k .0)) (inl (k .1));
+      seats = λ h r. t .seats h r ∙ a .seats h r;
+      flights = λ i. a .flights (n .flights i);
+      tops = λ r. t .unlogged .tops r ∙ a .tops r;
+      names = λ r. t .unlogged .names r ∙ a .names r;
+      known = λ {r} {y} e. subst (λ (z : LeaseRecord). Known W (z .mark)) (sym (known r y e)) (inl (omega (arith, t .gens 0)));
     })
-move-keeps s V W c (Move.fades a b d e f g l) = step-keeps s V W c (fades-step s V W c a b d e f g l)
+move-keeps s V W c (Move.passes now ups gens stamps seats l blocks flights) =
+    step-keeps s V W c (fades-step s V W c (omega arith) flights seats (λ r. inl (blocks r)) (λ h e. sym (ups h) ∙ e) (λ h. inl (gens h, omega (arith, stamps h))) l)
+move-keeps s V W c (Move.loses f t g blocks) = step-keeps s V W c (still-step s V W c t (record { flights = λ {f = e} i. g .flights e i .0 }) (λ r. inl (blocks r)))
+move-keeps s V W c (Move.lands f t g blocks) = step-keeps s V W c (lands-step s V W c f (g .was) (t .tick) (t .ups) (t .gens) (t .stamps) (t .seats) (t .unlogged) (g .flights) blocks)
+move-keeps s V W c (Move.spoils r t n blocks) = step-keeps s V W c (still-step s V W c t n (λ q. elim (blocks q) [ inl d ↦ inr (d .1) | inr d ↦ inl d ]))
 move-keeps s V W c (Move.notes h r x t l n v b) = step-keeps s V W c (notes-step s V W c h r x t l n v b)
 move-keeps s V W c (Move.claims h r m x t l n v b o) = step-keeps s V W c (claims-step s V W c h r m x t l n v b o)
-move-keeps s V W c (Move.grants h r m k i at t l n v b early soon) = step-keeps s V W c (grants-step s V W c h r m k i at t l n v b early soon)
+move-keeps s V W c (Move.grants h r m k i t l n v b early soon) = step-keeps s V W c (grants-step s V W c h r m k i (V .tick) t l n v b early soon)
 move-keeps s V W c (Move.renews h r m k u p t l n v soon) = step-keeps s V W c (renews-step s V W c h r m k u p t l n v soon)
-move-keeps s V W c (Move.confirms h r k u at a x t l n v soon b m) = step-keeps s V W c (confirms-step s V W c h r k u at a x t l n v soon b m)
-move-keeps s V W c (Move.releases h r m k u at p t l n v soon) = step-keeps s V W c (releases-step s V W c h r m k u at p t l n v soon)
-move-keeps s V W c (Move.leaves h r m k i t l n v) = step-keeps s V W c (leaves-step s V W c h r m k i t l n v)
-move-keeps s V W c (Move.expires h r k u at p t l n v) = step-keeps s V W c (expires-step s V W c h r k u at p t l n v)
-move-keeps s V W c (Move.crashes h t now gens stamps seats blocks l n) = step-keeps s V W c (crashes-step s V W c h t now gens stamps seats blocks l n)
-move-keeps s V W c (Move.lands f was now ups gens stamps seats l flights blocks) = step-keeps s V W c (lands-step s V W c f was now ups gens stamps seats l flights blocks)
+move-keeps s V W c (Move.confirms h r k u a x t l n v soon b m) = step-keeps s V W c (confirms-step s V W c h r k u (V .tick) a x t l n v soon b m)
+move-keeps s V W c (Move.releases h r m k u p t l n v soon) = step-keeps s V W c (releases-step s V W c h r m k u (V .tick) p t l n v soon)
+move-keeps s V W c (Move.leaves h r m k i t l n v early) = step-keeps s V W c (leaves-step s V W c h r m k i t l n v)
+move-keeps s V W c (Move.expires h r k u p t l n v over) = step-keeps s V W c (expires-step s V W c h r k u (V .tick) p t l n v)
+move-keeps s V W c (Move.crashes h up down now gens stamps seats blocks l n) = step-keeps s V W c (crashes-step s V W c h (V .tick) now gens stamps seats blocks l n)
+move-keeps s V W c (Move.returns h down up next used others now seats blocks l n) = step-keeps s V W c (returns-step s V W c h down up next others now seats blocks l n)
 
 -- no move forgets a grant
 logged-top : (V W : View) (e : LogEntry) → Logged V W e → (q : ℕ) → V .top q ≤ W .top q
@@ -342,15 +368,19 @@ unlogged-top V W l q = omega (arith, l .tops q)
 -- so no move does
 pub move-tops : (s : Settings) (V W : View) → Move s V W → (q : ℕ) → V .top q ≤ W .top q
 move-tops s V W (Move.rests e) q = let n = ap (λ (X : View). X .top q) e in omega arith
-move-tops s V W (Move.opens a b known) q = omega (arith, a .tops q)
-move-tops s V W (Move.fades a b d e f g l) q = unlogged-top V W l q
+move-tops s V W (Move.sets a t n blocks) q = unlogged-top V W (t .unlogged) q
+move-tops s V W (Move.opens a t n known old) q = unlogged-top V W (t .unlogged) q
+move-tops s V W (Move.passes now ups gens stamps seats l blocks flights) q = unlogged-top V W l q
+move-tops s V W (Move.loses f t g blocks) q = unlogged-top V W (t .unlogged) q
+move-tops s V W (Move.lands f t g blocks) q = unlogged-top V W (t .unlogged) q
+move-tops s V W (Move.spoils r t n blocks) q = unlogged-top V W (t .unlogged) q
 move-tops s V W (Move.notes h r x t l n v b) q = unlogged-top V W l q
 move-tops s V W (Move.claims h r m x t l n v b o) q = unlogged-top V W l q
-move-tops s V W (Move.grants h r m k i at t l n v b early soon) q = logged-top V W _ l q
+move-tops s V W (Move.grants h r m k i t l n v b early soon) q = logged-top V W _ l q
 move-tops s V W (Move.renews h r m k u p t l n v soon) q = unlogged-top V W l q
-move-tops s V W (Move.confirms h r k u at a x t l n v soon b m) q = logged-top V W _ l q
-move-tops s V W (Move.releases h r m k u at p t l n v soon) q = logged-top V W _ l q
-move-tops s V W (Move.leaves h r m k i t l n v) q = unlogged-top V W l q
-move-tops s V W (Move.expires h r k u at p t l n v) q = logged-top V W _ l q
-move-tops s V W (Move.crashes h t now gens stamps seats blocks l n) q = logged-top V W _ l q
-move-tops s V W (Move.lands f was now ups gens stamps seats l flights blocks) q = unlogged-top V W l q
+move-tops s V W (Move.confirms h r k u a x t l n v soon b m) q = logged-top V W _ l q
+move-tops s V W (Move.releases h r m k u p t l n v soon) q = logged-top V W _ l q
+move-tops s V W (Move.leaves h r m k i t l n v early) q = unlogged-top V W l q
+move-tops s V W (Move.expires h r k u p t l n v over) q = logged-top V W _ l q
+move-tops s V W (Move.crashes h up down now gens stamps seats blocks l n) q = logged-top V W _ l q
+move-tops s V W (Move.returns h down up next used others now seats blocks l n) q = unlogged-top V W l q

@@ -1,6 +1,6 @@
 -- A room where nothing has happened yet, and its opening.
 use mathlib.Core.Path.{_≡_, refl, sym, ap, subst, _∙_}
-use mathlib.Core.Bool.{false, _&&_}
+use mathlib.Core.Bool.{true, false, _&&_}
 use mathlib.Core.List.{List, [], _∷_}
 use mathlib.Core.Logic.{inl, inr}
 use Prim.Native.Nat.{ℕ, _+_, _≤_, _<_}
@@ -22,14 +22,14 @@ use Rattle.machine.specs.Outcomes.{Outcome, area-test}
 use Rattle.machine.specs.Setup.{formatting, open-call}
 use Rattle.format.specs.Blocks.{founding, block-of}
 use Rattle.machine.specs.View.{placed, View, In, nobody, view, record-at, record-of, owner, highest}
-use Rattle.machine.specs.Moves.{Move, Untouched}
+use Rattle.machine.specs.Moves.{Move}
 use Rattle.machine.proofs.Clash.{clash}
 use Rattle.machine.proofs.Core.{Known}
 use Rattle.machine.proofs.Quiet.{Quiet, quiet-core}
 use Rattle.machine.proofs.Records.{Valid, reads-back, length-block}
 use Rattle.machine.proofs.Frames.{unless-elim, wrote-bytes}
 use Rattle.machine.proofs.Shape.{Closed, Inv, Kept}
-use Rattle.machine.proofs.Kept.{kept-by, kept-same, kept-from, same-view, record-here, writing-elim}
+use Rattle.machine.proofs.Kept.{kept-by, kept-same, kept-from, same-view, still-of, shut-untouched, record-here, writing-elim}
 
 -- a closed room reads no block
 pub shut-record : (m : Room) (q : ℕ) → m .opened ≡ false → record-at m q ≡ None
@@ -38,20 +38,7 @@ shut-record m q shut = cond-false (m .opened && ltb q (m .settings .resources)) 
 -- a closed room, its log and its seats
 pub shut-quiet : (w : World) → Closed w → ((r : ℕ) (y : LeaseRecord) → record-at (w .room) r ≡ Some y → Known (view w) (y .mark)) → Quiet (view w)
 unfolding view
-shut-quiet w c known = record {
-  seats = λ h r. ap (placed (host-at (w .room) h .offset)) (c .seats h r);
-  flights = λ {f} i. none f (subst (In f) (c .flights) i);
-  tops = λ r. ap (λ (n : ℕ). highest 0 (take n (w .log)) r) (c .logged);
-  names = λ r. ap (λ (n : ℕ). owner nobody (take n (w .log)) r) (c .logged);
-  known = λ {r} {y} e. known r y e;
-}
-  where
-    none : (f : Flight) → In f [] → ⊥
-    none f i = elim i [ ]
-
--- nothing has happened yet in a quiet room
-untouched : (V : View) → Quiet V → Untouched V
-untouched V q = record { seats = q .seats; flights = q .flights; tops = q .tops; names = q .names }
+shut-quiet w c known = let u = shut-untouched w c in record { seats = u .seats; flights = u .flights; tops = u .tops; names = u .names; known = λ {r} {y} e. known r y e }
 
 -- the disk of a closed room is written
 module _ (w : World) (d : DiskModel) (i : Inv w) (shut : w .room .opened ≡ false) where
@@ -106,8 +93,7 @@ opened-kept w i shut enough all = record {
   };
   tops = λ r. omega arith;
   moved =
-      Move.opens (untouched (view w) (shut-quiet w c (λ r y e. clash (let q = shut-record (w .room) r shut in cc)))) (untouched (view v) open-quiet)
-      (λ r x e. (founded-is r x e, i .shape .aged 0 (omega arith) .0));
+      Move.opens (shut-untouched w c) (still-of w (w .room .disk) true (w .room .flights)) (record { flights = λ n. n }) founded-is (i .shape .aged 0 (omega arith) .0);
 }
   where
     c : Closed w

@@ -45,6 +45,10 @@ not-late o z t n h e = omega (arith, ints)
 pub before-until : (o z : ℤ) (t : ℕ) → Ticks o z → leZ z (pos t -ℤ o) ≡ false → t < ticked o z
 before-until o z t h e = omega (arith, ints)
 
+-- a reading that is at until or later
+pub past-until : (o z : ℤ) (t : ℕ) → Ticks o z → ltZ (pos t -ℤ o) z ≡ false → ticked o z ≤ t
+past-until o z t h e = omega (arith, ints)
+
 -- a clock below until, by the tick
 pub until-tick : (o z : ℤ) (t : ℕ) → Ticks o z → (pos t -ℤ o) <ℤ z → t < ticked o z
 until-tick o z t h e = omega (arith, ints)

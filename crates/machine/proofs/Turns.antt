@@ -23,7 +23,7 @@ use Rattle.machine.specs.Claiming.{try-tests, still-tests, claim-tests, watchi
 use Rattle.machine.specs.View.{watching as watching-place, idle, claimed, held, asked, ticked, view}
 use Rattle.machine.specs.Moves.{Move, Open, free, still}
 use Rattle.machine.proofs.Frames.{unless-elim, by-kind, by-option, record-same}
-use Rattle.machine.proofs.Times.{now-ticked, now-ticks, not-early, before-until}
+use Rattle.machine.proofs.Times.{now-ticked, now-ticks, not-early, before-until, past-until}
 use Rattle.machine.proofs.Shape.{Inv, Kept, Stand, stands}
 use Rattle.machine.proofs.Kept.{kept-same, kept-from, read-view, read-kept, reading-elim, read-world}
 use Rattle.machine.proofs.Seats.{vacant-placed, watched-is, claim-is, hold-is, seat-turn, logged-turn, sent-turn, sent-logged-turn}
@@ -108,7 +108,7 @@ release-kept w h r i =
     (λ x e. let p = hold-is o (seat-at m h r) x e (i .shape .whole h r) in
     unless-elim P w _ (log-test w ∷ late m h x ∷ issue-tests m h) (λ _. kept-same w i)
     (λ g. sent-logged-turn w h r seats.Idle idle i t tt refl Free (x .term) (g .1 .1 .1 .0) (p .2) (p .3) (plain-entry m events.Released h r (x .term)) (g .0)
-    (λ turn l u. Move.releases h r (next-mark m h) (x .term) (ticked o (x .until)) (m .tick) (asked o (x .pending)) turn l u (p .0) (before-until o (x .until) (m .tick) (p .1) (g .1 .0))))))
+    (λ turn l u. Move.releases h r (next-mark m h) (x .term) (ticked o (x .until)) (asked o (x .pending)) turn l u (p .0) (before-until o (x .until) (m .tick) (p .1) (g .1 .0))))))
 
 -- watch keeps a room
 pub watch-kept : (w : World) (h r : ℕ) → Inv w → Kept w (watch-call w h r .world)
@@ -122,8 +122,9 @@ watch-kept w h r i =
     (λ _. by-option P (claim (seat-at m h r)) (refused w WrongSeat 0) _ (λ _. kept-same w i)
     (λ x e. let p = claim-is o (seat-at m h r) x e (i .shape .whole h r) in
     unless-elim P w _ (leave-tests w h x) (λ _. kept-same w i)
-    (λ g. seat-turn w h r seats.Idle idle i t tt refl (λ turn l u. Move.leaves h r (x .mark) (x .term) (ticked o (x .issued)) turn l u (p .0)))))
+    (λ g. seat-turn w h r seats.Idle idle i t tt refl (λ turn l u. Move.leaves h r (x .mark) (x .term) (ticked o (x .issued)) turn l u (p .0)
+    (omega (arith, not-early o (x .issued) (m .tick) (m .settings .lease) (p .1) (g .1 .0), i .shape .bounded .lease-low))))))
     (λ x e. let p = hold-is o (seat-at m h r) x e (i .shape .whole h r) in
     unless-elim P w _ (expire-tests w h x) (λ _. kept-same w i)
     (λ g. logged-turn w h r seats.Idle idle i t tt refl (plain-entry m events.Expired h r (x .term)) (g .0)
-    (λ turn l u. Move.expires h r (x .term) (ticked o (x .until)) (m .tick) (asked o (x .pending)) turn l u (p .0)))))
+    (λ turn l u. Move.expires h r (x .term) (ticked o (x .until)) (asked o (x .pending)) turn l u (p .0) (past-until o (x .until) (m .tick) (p .1) (g .1 .0))))))

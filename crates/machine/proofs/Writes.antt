@@ -1,5 +1,5 @@
 -- What the disk's side and time keep: land, lose, spoil, tick.
-use mathlib.Core.Path.{_≡_, refl, ap, _∙_}
+use mathlib.Core.Path.{_≡_, refl, ap, subst, _∙_}
 use mathlib.Core.Bool.{true, false, cond, not, _&&_}
 use mathlib.Core.List.{List, [], _∷_}
 use mathlib.Core.Logic.{inl, inr}
@@ -24,13 +24,13 @@ use Rattle.machine.specs.Setup.{tick-tests, younger, tick-call}
 use Rattle.format.specs.Blocks.{block-of}
 use Rattle.machine.proofs.Records.{reads-back, length-block, spoiled}
 use Rattle.machine.specs.View.{record-of, In, view}
-use Rattle.machine.specs.Moves.{Move}
+use Rattle.machine.specs.Moves.{Gone, Move}
 use Rattle.machine.proofs.Frames.{Apart, unless-elim, by-option, find-in, removed-in, removed-apart, removed-gone, younger-in, younger-apart, failed-bytes, wrote-bytes}
 use Rattle.machine.proofs.Shape.{Shape, Inv, Kept}
-use Rattle.machine.proofs.Kept.{kept-by, kept-same, disk-kept, disk-shape, record-here, writing-elim}
+use Rattle.machine.proofs.Kept.{kept-by, kept-same, disk-kept, disk-shape, disk-world, still-of, record-here, writing-elim}
 
 -- time passes and writes go
-module _ (w : World) (t : ℕ) (fs : List Flight) (i : Inv w) (o : w .room .opened ≡ true) (apart : Apart fs) (sub : (f : Flight) → In f fs → In f (w .room .flights) × (t ≤ f .issued .0 + w .room .settings .delay)) where
+module _ (w : World) (t : ℕ) (fs : List Flight) (i : Inv w) (o : w .room .opened ≡ true) (apart : Apart fs) (sub : (f : Flight) → In f fs → In f (w .room .flights)) where
   abbrev flown-world : World
   flown-world = let m = w .room in record { room = record { settings = m .settings; disk = m .disk; opened = m .opened; tick = t; hosts = m .hosts; seats = m .seats; flights = fs; logged = m .logged }; log = w .log }
 
@@ -42,25 +42,37 @@ module _ (w : World) (t : ℕ) (fs : List Flight) (i : Inv w) (o : w .room .open
     rows = s .rows;
     row = s .row;
     apart = apart;
-    valid = λ f n. s .valid f (sub f n .0);
+    valid = λ f n. s .valid f (sub f n);
     blocks = s .blocks;
     aged = s .aged;
     whole = s .whole;
     closed = λ e. absurd (both-ways (w .room .opened) e o);
   }
 
-  -- and the room is kept
-  flown-kept : w .room .tick ≤ t → Kept w flown-world
-  unfolding view
-  flown-kept later = kept-by w flown-world i flown-shape refl (Move.fades later sub (λ h r. refl) (λ q. inl refl) (λ h e. e) (λ h. inl (refl, omega arith)) (record { names = λ q. refl; tops = λ q. refl }))
+  -- so it keeps a room if it is a move
+  flown-kept : Move (w .room .settings) (view w) (view flown-world) → Kept w flown-world
+  flown-kept move = kept-by w flown-world i flown-shape refl move
 
 -- tick keeps a room
 pub tick-kept : (w : World) → Inv w → Kept w (tick-call w .world)
+unfolding view
 tick-kept w i =
     let m = w .room in
+    let fs = younger (m .settings .delay) (m .tick + 1) (m .flights) in
+    let young = λ (g : Flight) (n : In g fs). younger-in (m .settings .delay) (m .tick + 1) g (m .flights) n in
     unless-elim (λ (y : Outcome (Unit {0})). Kept w (y .world)) w _ (tick-tests m) (λ _. kept-same w i)
-    (λ f. flown-kept w (m .tick + 1) (younger (m .settings .delay) (m .tick + 1) (m .flights)) i (not-false (m .opened) (f .0))
-    (younger-apart (m .settings .delay) (m .tick + 1) (m .flights) (i .shape .apart)) (λ g n. younger-in (m .settings .delay) (m .tick + 1) g (m .flights) n) (omega arith))
+    (λ f. flown-kept w (m .tick + 1) fs i (not-false (m .opened) (f .0)) (younger-apart (m .settings .delay) (m .tick + 1) (m .flights) (i .shape .apart)) (λ g n. young g n .0)
+    (Move.passes refl (λ h. refl) (λ h. refl) (λ h. refl) (λ h r. refl) (record { names = λ q. refl; tops = λ q. refl }) (λ r. refl) young))
+
+-- the write with mark x is taken out of flight
+gone-of : (w v : World) (x : Mark) (f : Flight) → Inv w → find x (w .room .flights) ≡ Some f → v .room .flights ≡ removed x (w .room .flights) → Gone (view w) (view v) f
+unfolding view
+gone-of w v x f i e is =
+    let was = find-in x f (w .room .flights) e in
+    record {
+      was = was .0;
+      flights = λ g n. let n′ = subst (In g) is n in (removed-in x g (w .room .flights) n′, λ same. removed-gone x g (w .room .flights) (i .shape .apart) n′ (same ∙ was .1));
+    }
 
 -- lose keeps a room
 pub lose-kept : (w : World) (x : Mark) → Inv w → Kept w (lose-call w x .world)
@@ -71,11 +83,12 @@ lose-kept w x i =
     unless-elim P w _ ((not (m .opened), NotOpen) ∷ []) (λ _. kept-same w i)
     (λ f. by-option P (find x (m .flights)) (refused w NoSuchWrite 0) _ (λ _. kept-same w i)
     (λ g e. flown-kept w (m .tick) (removed x (m .flights)) i (not-false (m .opened) (f .0)) (removed-apart x (m .flights) (i .shape .apart))
-    (λ a n. let j = removed-in x a (m .flights) n in (j, i .core .flight-time j .1)) (omega arith)))
+    (λ a n. removed-in x a (m .flights) n)
+    (Move.loses g (still-of w (m .disk) (m .opened) (removed x (m .flights))) (gone-of w (flown-world w (m .tick) (removed x (m .flights)) i (not-false (m .opened) (f .0)) (removed-apart x (m .flights) (i .shape .apart)) (λ a n. removed-in x a (m .flights) n)) x g i e refl) (λ r. refl))))
 
 -- spoil keeps a room
 pub spoil-kept : (w : World) (r : ℕ) (area : List ℕ) → Inv w → Kept w (spoil-call w r area .world)
-unfolding spoil-call
+unfolding spoil-call view
 spoil-kept w r area i =
     let m = w .room in
     let P : Outcome (Unit {0}) → Type 0 = λ y. Kept w (y .world) in
@@ -85,11 +98,12 @@ spoil-kept w r area i =
     let l : r < length (m .disk .blocks) = omega (arith, i .shape .blocks o, ltb-true r (m .settings .resources) (not-false (ltb r (m .settings .resources)) (f .1 .1 .0))) in
     let long = write-long (m .disk) r l new refl in
     writing-elim P w r new done l refl
-    (λ bad f. disk-kept w (after-write (m .disk) r new) i o long (λ q. inl (ap (λ (bs : List ℕ). cond (m .opened && ltb q (m .settings .resources)) (record-of bs) None) (failed-bytes (m .disk) r q new l refl bad))))
-    (λ good. disk-kept w (after-write (m .disk) r new) i o long (λ q. elim (wrote-bytes (m .disk) r q new l refl good) [
-      | inl e ↦ inr (ap (λ (bs : List ℕ). cond (m .opened && ltb q (m .settings .resources)) (record-of bs) None) (e .1) ∙ ap (λ (x : Option LeaseRecord). cond (m .opened && ltb q (m .settings .resources)) x None) (spoiled) ∙ cond-both (m .opened && ltb q (m .settings .resources)) None None (λ (x : Option LeaseRecord). x ≡ None) (λ _. refl) (λ _. refl))
-      | inr e ↦ inl (ap (λ (bs : List ℕ). cond (m .opened && ltb q (m .settings .resources)) (record-of bs) None) (e .1))
-    ])))
+    (λ bad f. disk-kept w (after-write (m .disk) r new) i o long (λ q. ap (λ (bs : List ℕ). cond (m .opened && ltb q (m .settings .resources)) (record-of bs) None) (failed-bytes (m .disk) r q new l refl bad)))
+    (λ good. kept-by w (disk-world w (after-write (m .disk) r new) i o long) i (disk-shape w (after-write (m .disk) r new) i o long) refl
+    (Move.spoils r (still-of w (after-write (m .disk) r new) (m .opened) (m .flights)) (record { flights = λ n. n }) (λ q. elim (wrote-bytes (m .disk) r q new l refl good) [
+      | inl e ↦ inl (e .0, ap (λ (bs : List ℕ). cond (m .opened && ltb q (m .settings .resources)) (record-of bs) None) (e .1) ∙ ap (λ (x : Option LeaseRecord). cond (m .opened && ltb q (m .settings .resources)) x None) (spoiled) ∙ cond-both (m .opened && ltb q (m .settings .resources)) None None (λ (x : Option LeaseRecord). x ≡ None) (λ _. refl) (λ _. refl))
+      | inr e ↦ inr (ap (λ (bs : List ℕ). cond (m .opened && ltb q (m .settings .resources)) (record-of bs) None) (e .1))
+    ]))))
 
 -- a write lands where the disk takes it
 landed-kept : (w : World) (x : Mark) (f : Flight) → Inv w → w .room .opened ≡ true → find x (w .room .flights) ≡ Some f → fails (block (w .room .disk) (f .body .resource)) ≡ false
@@ -118,8 +132,7 @@ landed-kept w x f i o e good =
       whole = s .whole;
       closed = λ e. absurd (both-ways (m .opened) e o);
     } in
-    kept-by w v i shape refl (Move.lands f (was .0) refl (λ g. refl) (λ g. refl) (λ g. refl) (λ g q. refl) (record { names = λ q. refl; tops = λ q. refl })
-    (λ g n. (removed-in x g (m .flights) n, λ same. removed-gone x g (m .flights) (i .shape .apart) n (same ∙ was .1)))
+    kept-by w v i shape refl (Move.lands f (still-of w d (m .opened) (removed x (m .flights))) (gone-of w v x f i e refl)
     (λ q. elim (wrote-bytes (m .disk) r q new l whole good) [
       | inl e ↦ inl (e .0, record-here (v .room) q o (omega (arith, valid .1, e .0)) ∙ ap record-of (e .1) ∙ reads-back (f .body) (valid .0))
       | inr e ↦ inr (ap (λ (bs : List ℕ). cond (m .opened && ltb q (m .settings .resources)) (record-of bs) None) (e .1))
@@ -141,5 +154,5 @@ land-kept w x area i =
     let whole = length-block (f .body) in
     writing-elim P w r new (λ v. done (at-room v (with-flights (v .room) (removed x (m .flights))))) l whole
     (λ bad g. disk-kept w (after-write (m .disk) r new) i o (write-long (m .disk) r l new whole)
-    (λ q. inl (ap (λ (bs : List ℕ). cond (m .opened && ltb q (m .settings .resources)) (record-of bs) None) (failed-bytes (m .disk) r q new l whole bad))))
+    (λ q. ap (λ (bs : List ℕ). cond (m .opened && ltb q (m .settings .resources)) (record-of bs) None) (failed-bytes (m .disk) r q new l whole bad)))
     (λ good. landed-kept w x f i o e good)))

@@ -78,19 +78,51 @@ pub record Untouched (V : View) : Type 0 where
   pub tops : (r : ℕ) → V .top r ≡ 0
   pub names : (r : ℕ) → V .named r ≡ nobody
 
+-- the tick, the hosts and the seats stay, and nothing is logged
+pub record Still (V W : View) : Type 0 where
+  pub tick : W .tick ≡ V .tick
+  pub ups : (h : ℕ) → W .up h ≡ V .up h
+  pub gens : (h : ℕ) → W .gen h ≡ V .gen h
+  pub stamps : (h : ℕ) → W .stamp h ≡ V .stamp h
+  pub seats : (h r : ℕ) → W .seat h r ≡ V .seat h r
+  pub unlogged : Unlogged V W
+
+-- f was in flight and is no more, and nothing is issued
+pub record Gone (V W : View) (f : Flight) : Type 0 where
+  pub was : In f (V .flights)
+  pub flights : (e : Flight) → In e (W .flights) → In e (V .flights) × (e .body .mark ≡ f .body .mark → ⊥)
+
+-- every block reads as before
+abbrev pub Unwritten : View → View → Type 0
+Unwritten V W = (r : ℕ) → W .block r ≡ V .block r
+
+-- every block but r reads as before, and r as x
+abbrev pub Written : View → View → ℕ → Option LeaseRecord → Type 0
+Written V W r x = (q : ℕ) → ((q ≡ r) × (W .block q ≡ x)) ⊎ (W .block q ≡ V .block q)
+
+-- host h has changed, and no other
+pub record Changed (V W : View) (h : ℕ) : Type 0 where
+  pub ups : (g : ℕ) → (g ≡ h → ⊥) → W .up g ≡ V .up g
+  pub gens : (g : ℕ) → (g ≡ h → ⊥) → W .gen g ≡ V .gen g
+  pub stamps : (g : ℕ) → (g ≡ h → ⊥) → W .stamp g ≡ V .stamp g
+
 pub data Move (s : Settings) (V W : View) : Type 0 where
   -- nothing changes but the disk's tallies
   rests : W ≡ V → Move s V W
-  -- the room opens: nothing has happened yet, and each block reads as its founding record
-  opens : Untouched V → Untouched W → ((r : ℕ) (x : LeaseRecord) → W .block r ≡ Some x → (x ≡ founding r) × (1 ≤ W .gen 0)) → Move s V W
-  -- time passes, writes are lost, a block is spoiled, a clock is set before anything has happened, or a host comes back
-  fades : V .tick ≤ W .tick
-      → ((f : Flight) → In f (W .flights) → In f (V .flights) × (W .tick ≤ f .issued .0 + s .delay))
-      → ((h r : ℕ) → W .seat h r ≡ V .seat h r)
-      → ((r : ℕ) → (W .block r ≡ V .block r) ⊎ (W .block r ≡ None))
-      → ((h : ℕ) → W .up h ≡ false → V .up h ≡ false)
-      → ((h : ℕ) → ((W .gen h ≡ V .gen h) × (V .stamp h ≤ W .stamp h)) ⊎ ((V .gen h < W .gen h) × ((r : ℕ) → W .seat h r ≡ idle)))
-      → Unlogged V W → Move s V W
+  -- a clock is set, before anything has happened
+  sets : Untouched V → Still V W → Unsent V W → Unwritten V W → Move s V W
+  -- the room opens, before anything has happened: each block reads as its founding record, whose generation 0 is no host's
+  opens : Untouched V → Still V W → Unsent V W → ((r : ℕ) (x : LeaseRecord) → W .block r ≡ Some x → x ≡ founding r) → 1 ≤ V .gen 0 → Move s V W
+  -- a tick passes, and writes that are too old are lost
+  passes : W .tick ≡ V .tick + 1 → ((h : ℕ) → W .up h ≡ V .up h) → ((h : ℕ) → W .gen h ≡ V .gen h) → ((h : ℕ) → W .stamp h ≡ V .stamp h)
+      → ((h r : ℕ) → W .seat h r ≡ V .seat h r) → Unlogged V W → Unwritten V W
+      → ((f : Flight) → In f (W .flights) → In f (V .flights) × (W .tick ≤ f .issued .0 + s .delay)) → Move s V W
+  -- a write is lost
+  loses : (f : Flight) → Still V W → Gone V W f → Unwritten V W → Move s V W
+  -- a write lands
+  lands : (f : Flight) → Still V W → Gone V W f → Written V W (f .body .resource) (Some (f .body)) → Move s V W
+  -- a block is spoiled
+  spoils : (r : ℕ) → Still V W → Unsent V W → Written V W r None → Move s V W
   -- a host notes the record that it read
   notes : (h r : ℕ) (x : LeaseRecord) → Turn V W h r (watching x (V .tick)) → Unlogged V W → Unsent V W
       → vacant (V .seat h r) ≡ true → V .block r ≡ Some x → Move s V W
@@ -98,30 +130,28 @@ pub data Move (s : Settings) (V W : View) : Type 0 where
   claims : (h r : ℕ) (m : Mark) (x : LeaseRecord) → Turn V W h r (claimed m (x .term + 1) (V .tick)) → Unlogged V W → Sent V W h r (claim-record r m (x .term + 1))
       → vacant (V .seat h r) ≡ true → V .block r ≡ Some x → Open s V h r x → Move s V W
   -- a claim is granted
-  grants : (h r : ℕ) (m : Mark) (k i t : ℕ) → Turn V W h r (held k (i + s .lease) None) → Logged V W (note t events.Granted h r k (i + s .lease)) → Unsent V W
+  grants : (h r : ℕ) (m : Mark) (k i : ℕ) → Turn V W h r (held k (i + s .lease) None) → Logged V W (note (V .tick) events.Granted h r k (i + s .lease)) → Unsent V W
       → V .seat h r ≡ claimed m k i → V .block r ≡ Some (claim-record r m k) → i + (2 * s .delay + 1) ≤ V .tick → V .tick < i + s .lease → Move s V W
   -- a holder asks for a renewal
   renews : (h r : ℕ) (m : Mark) (k u : ℕ) (p : Option Asked) → Turn V W h r (held k u (Some (record { mark = m; at = V .tick }))) → Unlogged V W → Sent V W h r (claim-record r m k)
       → V .seat h r ≡ held k u p → V .tick < u → Move s V W
   -- a renewal is confirmed
-  confirms : (h r : ℕ) (k u t : ℕ) (a : Asked) (x : LeaseRecord) → Turn V W h r (held k (a .at + s .lease) None) → Logged V W (note t events.Renewed h r k (a .at + s .lease)) → Unsent V W
+  confirms : (h r : ℕ) (k u : ℕ) (a : Asked) (x : LeaseRecord) → Turn V W h r (held k (a .at + s .lease) None) → Logged V W (note (V .tick) events.Renewed h r k (a .at + s .lease)) → Unsent V W
       → V .seat h r ≡ held k u (Some a) → V .tick < u → V .block r ≡ Some x → x .mark ≡ a .mark → Move s V W
   -- a holder releases
-  releases : (h r : ℕ) (m : Mark) (k u t : ℕ) (p : Option Asked) → Turn V W h r idle → Logged V W (note t events.Released h r k 0) → Sent V W h r (record { kind = Free; resource = r; mark = m; term = k })
+  releases : (h r : ℕ) (m : Mark) (k u : ℕ) (p : Option Asked) → Turn V W h r idle → Logged V W (note (V .tick) events.Released h r k 0) → Sent V W h r (record { kind = Free; resource = r; mark = m; term = k })
       → V .seat h r ≡ held k u p → V .tick < u → Move s V W
-  -- a claim is given up
-  leaves : (h r : ℕ) (m : Mark) (k i : ℕ) → Turn V W h r idle → Unlogged V W → Unsent V W → V .seat h r ≡ claimed m k i → Move s V W
+  -- a claim is given up, once it can be checked
+  leaves : (h r : ℕ) (m : Mark) (k i : ℕ) → Turn V W h r idle → Unlogged V W → Unsent V W → V .seat h r ≡ claimed m k i → i + (2 * s .delay + 1) ≤ V .tick → Move s V W
   -- a lease is over
-  expires : (h r : ℕ) (k u t : ℕ) (p : Option Asked) → Turn V W h r idle → Logged V W (note t events.Expired h r k 0) → Unsent V W → V .seat h r ≡ held k u p → Move s V W
+  expires : (h r : ℕ) (k u : ℕ) (p : Option Asked) → Turn V W h r idle → Logged V W (note (V .tick) events.Expired h r k 0) → Unsent V W → V .seat h r ≡ held k u p → u ≤ V .tick → Move s V W
   -- a host goes down
-  crashes : (h t : ℕ) → W .tick ≡ V .tick → ((g : ℕ) → W .gen g ≡ V .gen g) → ((g : ℕ) → W .stamp g ≡ V .stamp g)
+  crashes : (h : ℕ) → V .up h ≡ true → W .up h ≡ false → W .tick ≡ V .tick → ((g : ℕ) → W .gen g ≡ V .gen g) → ((g : ℕ) → W .stamp g ≡ V .stamp g)
       → ((g q : ℕ) → ((g ≡ h) × (W .seat g q ≡ idle)) ⊎ ((g ≡ h → ⊥) × (W .seat g q ≡ V .seat g q) × (W .up g ≡ V .up g)))
-      → ((q : ℕ) → W .block q ≡ V .block q) → Logged V W (note t events.Crashed h 0 0 0) → Unsent V W → Move s V W
-  -- a write lands
-  lands : (f : Flight) → In f (V .flights) → W .tick ≡ V .tick → ((g : ℕ) → W .up g ≡ V .up g) → ((g : ℕ) → W .gen g ≡ V .gen g) → ((g : ℕ) → W .stamp g ≡ V .stamp g)
-      → ((g q : ℕ) → W .seat g q ≡ V .seat g q) → Unlogged V W
-      → ((e : Flight) → In e (W .flights) → In e (V .flights) × (e .body .mark ≡ f .body .mark → ⊥))
-      → ((q : ℕ) → ((q ≡ f .body .resource) × (W .block q ≡ Some (f .body))) ⊎ (W .block q ≡ V .block q)) → Move s V W
+      → Unwritten V W → Logged V W (note (V .tick) events.Crashed h 0 0 0) → Unsent V W → Move s V W
+  -- a host comes back in its next generation, with no stamp used
+  returns : (h : ℕ) → V .up h ≡ false → W .up h ≡ true → W .gen h ≡ V .gen h + 1 → W .stamp h ≡ 0 → Changed V W h → W .tick ≡ V .tick
+      → ((g q : ℕ) → W .seat g q ≡ V .seat g q) → Unwritten V W → Unlogged V W → Unsent V W → Move s V W
 
 -- a call that is made of a room after any run is one of these moves
 abbrev pub Every-call-moves : Type 0
