@@ -69,6 +69,10 @@ module _ (w : World) (h : ℕ) (i : Inv w) (o : w .room .opened ≡ true) (few :
       | inr d ↦ subst (λ (z : ℤ). Whole z (seat-at (crashed .room) g q)) (sym (crashed-same (λ x. x .offset) refl g)) (subst (Whole (host-at (w .room) g .offset)) (sym (ap (λ (ys : List Seat). getD ys q seats.Idle) (d .1))) (s .whole g q))
     ];
     closed = λ e. absurd (both-ways (w .room .opened) e o);
+    spare = λ g q. elim (crashed-row g) [
+      | inl d ↦ inl (ap (λ (ys : List Seat). getD ys q seats.Idle) (d .1) ∙ idle-row q)
+      | inr d ↦ elim (s .spare g q) [ inl n ↦ inl (ap (λ (ys : List Seat). getD ys q seats.Idle) (d .1) ∙ n) | inr n ↦ inr n ]
+    ];
   }
 
   -- a crash is a move
@@ -125,6 +129,7 @@ module _ (w : World) (h : ℕ) (x : Host) (i : Inv w) (few : h < 16) where
     aged = λ g n. elim (hosted-at g) [ inl d ↦ omega (arith, ap (λ (y : Host). y .generation) (d .1)) | inr d ↦ omega (arith, ap (λ (y : Host). y .generation) (d .1), s .aged g n) ];
     whole = whole;
     closed = λ e. record { seats = s .closed e .seats; flights = s .closed e .flights; logged = s .closed e .logged };
+    spare = s .spare;
   }
 
 -- a host comes back in a new generation

@@ -159,6 +159,7 @@ module _ (w : World) (d : DiskModel) (i : Inv w) (o : w .room .opened ≡ true) 
     aged = s .aged;
     whole = s .whole;
     closed = λ e. absurd (both-ways (w .room .opened) e o);
+    spare = s .spare;
   }
 
   -- where each block reads as before, the room is kept

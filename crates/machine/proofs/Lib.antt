@@ -13,6 +13,7 @@ pub mod Made
 pub mod Frames
 pub mod Logs
 pub mod Shape
+pub mod Signs
 pub mod Kept
 pub mod Seats
 pub mod Turns

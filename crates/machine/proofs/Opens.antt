@@ -64,6 +64,7 @@ module _ (w : World) (d : DiskModel) (i : Inv w) (shut : w .room .opened ≡ fal
         aged = s .aged;
         whole = s .whole;
         closed = λ e. record { seats = s .closed e .seats; flights = s .closed e .flights; logged = s .closed e .logged };
+        spare = s .spare;
       }) refl
       (Move.rests shut-view)
 
@@ -88,6 +89,7 @@ opened-kept w i shut enough all = record {
       aged = s .aged;
       whole = s .whole;
       closed = λ e. clash (cc);
+      spare = s .spare;
     };
     core = quiet-core (w .room .settings) (view v) open-quiet;
   };

@@ -8,25 +8,26 @@ use native.Mathlib.Omega.{arith}
 use lib.ListN.{length, getD, replicate}
 use lib.IntN.{pos}
 use Rattle.std.proofs.shelf.Lists.{length-replicate, getD-replicate, getD-past}
-use Rattle.std.proofs.shelf.Tests.{cases-lt}
+use Rattle.std.proofs.shelf.Tests.{cases-bool, cases-lt}
 use Rattle.machine.specs.declared.types.Host.{Host}
 use Rattle.machine.specs.declared.types.Seat.{Seat}
 use Rattle.machine.specs.declared.types.Seat.the-variants as seats
 use Rattle.machine.specs.declared.settings.Settings.{Settings}
 use Rattle.format.specs.declared.events.LogEntry.{LogEntry}
 use Rattle.disk.specs.Model.{DiskModel}
-use Rattle.machine.specs.Room.{World, founded, no-host, host-at, seat-at}
+use Rattle.machine.specs.Room.{World, founded, no-host, host-at, seat-at, reading}
 use Rattle.machine.specs.Seats.{hold}
 use Rattle.machine.specs.Calls.{Call, set-clock, open-room, tick, try, check, renew, confirm, release, watch, land, lose, spoil, crash, restart, perform, after}
 use Rattle.machine.specs.Limits.{Bounded}
-use Rattle.machine.specs.Soundness.{Never-stolen, fresh-world, Holds, Exclusive, Grants, Rising, Vacant-before, Log-agrees, Stays-sound, entries}
+use Rattle.machine.specs.Soundness.{Signs-exactly, Never-stolen, fresh-world, Holds, Exclusive, Grants, Rising, Vacant-before, Log-agrees, Stays-sound, entries}
 use Rattle.machine.specs.View.{held, placed, asked, ticked, view}
 use Rattle.machine.specs.Moves.{Every-call-moves}
 use Rattle.machine.proofs.Clash.{clash}
 use Rattle.machine.proofs.Core.{Held-until}
-use Rattle.machine.proofs.Times.{until-tick, tick-until}
-use Rattle.machine.proofs.Shape.{Whole, Closed, Inv, Kept, Ran}
+use Rattle.machine.proofs.Times.{until-tick, tick-until, not-over}
+use Rattle.machine.proofs.Shape.{Whole, Closed, Inv, Kept, Ran, Stand, stood}
 use Rattle.machine.proofs.Bounds.{bounded}
+use Rattle.machine.proofs.Signs.{sign-answers, sign-holds}
 use Rattle.machine.proofs.Seats.{hold-is}
 use Rattle.machine.proofs.Turns.{try-kept, renew-kept, release-kept, watch-kept}
 use Rattle.machine.proofs.Grants.{Grant, check-fair, confirm-kept}
@@ -80,6 +81,7 @@ founded-inv s d log = record {
     aged = λ h l. omega (arith, ap (λ (x : Host). x .generation) (getD-replicate 16 h host no-host l));
     whole = λ h r. subst (Whole (host-at (founded s d) h .offset)) (sym (idle-at h r)) tt;
     closed = λ e. shut;
+    spare = λ h r. inl (idle-at h r);
   };
   core = quiet-core s (view w) (shut-quiet w shut (λ r y e. clash (let q = shut-record (founded s d) r refl in cc)));
 }
@@ -136,6 +138,25 @@ module _ (w : World) (i : Inv w) where
     λ a. let n = names-owner (entries w) r (w .room .tick) h a in held-holds h r (n .0) (i .core .named-held (n .1)) (n .2),
   )
 
+  -- a host that holds is one that may call
+  holds-stands : (h r : ℕ) → Holds (w .room) h r → Stand w h r
+  unfolding view
+  holds-stands h r (x, e, soon) =
+      let n = holds-held h r (x, e, soon) in
+      record {
+        opened = elim (cases-bool (w .room .opened)) [ inl y ↦ y | inr y ↦ clash (let z = i .shape .closed y .seats h r in cc) ];
+        host = elim (i .shape .spare h r) [ inl y ↦ clash (cc) | inr y ↦ y .0 ];
+        resource = elim (i .shape .spare h r) [ inl y ↦ clash (cc) | inr y ↦ y .1 ];
+        up = elim (cases-bool (host-at (w .room) h .up)) [ inl y ↦ y | inr y ↦ clash (let z = i .core .down-idle {h = h} {r = r} y in let v = n .1 .2 in cc) ];
+      }
+
+  -- sign answers who holds, and nobody else
+  signs : Signs-exactly (w .room)
+  signs h r = (
+    λ a. (a .0 .term, sign-answers (w .room) h r (a .0) (stood w h r (holds-stands h r a)) (a .1) (not-over (a .0 .until) (reading (w .room) h) (a .2))),
+    λ k e. sign-holds (w .room) h r k e,
+  )
+
   -- confirm never answers stolen
   never-stolen : Never-stolen w
   never-stolen h r area e = confirm-kept w h r area i .not-stolen e
@@ -167,7 +188,7 @@ pub stays-sound : Stays-sound
 stays-sound s d log =
     let w : World = fresh-world s d log in
     let i = founded-inv s d log in (
-      λ calls. let v = after w calls in let n = run-kept w i calls .inv in record { exclusive = exclusive v n; vacant = vacant-before v n; agrees = agrees v n; confirmed = never-stolen v n },
+      λ calls. let v = after w calls in let n = run-kept w i calls .inv in record { exclusive = exclusive v n; vacant = vacant-before v n; agrees = agrees v n; signed = signs v n; confirmed = never-stolen v n },
       rising w i,
     )
 

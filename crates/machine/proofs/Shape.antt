@@ -1,6 +1,6 @@
 -- What a room's lists and numbers keep, and what a turn of a host does to them.
 use mathlib.Core.Path.{_≡_, refl, sym, ap, subst, _∙_}
-use mathlib.Core.Bool.{true, false, _&&_}
+use mathlib.Core.Bool.{true, false, not, _&&_}
 use mathlib.Core.List.{List, []}
 use mathlib.Core.Logic.{_⊎_, inl, inr}
 use Prim.Native.Nat.{ℕ, _+_, _≤_, _<_}
@@ -9,7 +9,7 @@ use lib.ListN.{length, getD, set}
 use lib.Dec.{ltb}
 use lib.IntN.{ℤ}
 use Rattle.std.proofs.shelf.Lists.{length-set}
-use Rattle.std.proofs.shelf.Tests.{not-false, and-parts, ltb-true}
+use Rattle.std.proofs.shelf.Tests.{not-false, and-parts, and-from, ltb-true, lt-ltb}
 use Rattle.std.specs.declared.option.Option.{Option}
 use Rattle.std.specs.declared.option.Option.the-variants.{Some, None}
 use Rattle.machine.specs.declared.types.Pending.{Pending}
@@ -59,6 +59,7 @@ pub record Shape (w : World) : Type 0 where
   pub aged : (h : ℕ) → h < 16 → (1 ≤ host-at (w .room) h .generation) × (host-at (w .room) h .generation < 65536)
   pub whole : (h r : ℕ) → Whole (host-at (w .room) h .offset) (seat-at (w .room) h r)
   pub closed : w .room .opened ≡ false → Closed w
+  pub spare : (h r : ℕ) → (seat-at (w .room) h r ≡ seats.Idle) ⊎ ((h < w .room .settings .hosts) × (r < w .room .settings .resources))
 
 pub record Inv (w : World) : Type 0 where
   pub shape : Shape w
@@ -93,6 +94,14 @@ stands w h r f =
       resource = ltb-true r (m .settings .resources) (p .1);
       up = not-false (host-at m h .up) (f .1 .1 .0);
     }
+
+-- and the other way round
+pub stood : (w : World) (h r : ℕ) → Stand w h r → All-false (standing (w .room) h r)
+stood w h r t =
+    let m = w .room in (
+      ap not (t .opened),
+      (ap not (and-from (ltb h (m .settings .hosts)) (ltb r (m .settings .resources)) (lt-ltb h (m .settings .hosts) (t .host)) (lt-ltb r (m .settings .resources) (t .resource))), (ap not (t .up), tt)),
+    )
 
 -- such a host is one of 16
 pub few-hosts : {w : World} {h r : ℕ} → Shape w → Stand w h r → h < 16
@@ -190,4 +199,8 @@ module _ (w : World) (hosts : List Host) (flights : List Flight) (logged : ℕ) 
       | inr e ↦ subst (λ (o : ℤ). Whole o (seat-at (after .room) g q)) (sym (y .offset g)) (subst (Whole (host-at (w .room) g .offset)) (sym (e .1)) (s .whole g q))
     ];
     closed = λ e. clash (let o = t .opened in cc);
+    spare = λ g q. elim (seat-cases g q) [
+      | inl e ↦ inr (omega (arith, t .host, e .0), omega (arith, t .resource, e .1))
+      | inr e ↦ elim (s .spare g q) [ inl n ↦ inl (e .1 ∙ n) | inr n ↦ inr n ]
+    ];
   }

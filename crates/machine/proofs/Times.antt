@@ -5,6 +5,8 @@ use Prim.Native.Nat.{ℕ, _+_, _≤_, _<_}
 use native.Mathlib.Omega.{arith}
 use lib.IntN.{ℤ, pos, _+ℤ_, _-ℤ_}
 use lib.Signed.{ltZ, leZ, _<ℤ_}
+use mathlib.Core.Logic.{inl, inr}
+use Rattle.std.proofs.shelf.Tests.{cases-bool}
 use Rattle.format.specs.Times.{natural}
 use Rattle.std.proofs.shelf.Signed.{ints}
 use Rattle.machine.specs.View.{ticked}
@@ -48,6 +50,14 @@ before-until o z t h e = omega (arith, ints)
 -- a reading that is at until or later
 pub past-until : (o z : ℤ) (t : ℕ) → Ticks o z → ltZ (pos t -ℤ o) z ≡ false → ticked o z ≤ t
 past-until o z t h e = omega (arith, ints)
+
+-- until is not reached where the clock is below it
+pub not-over : (z t : ℤ) → t <ℤ z → leZ z t ≡ false
+not-over z t e = elim (cases-bool (leZ z t)) [ inl y ↦ absurd (omega (arith, ints)) | inr y ↦ y ]
+
+-- and the other way round
+pub below-until : (z t : ℤ) → leZ z t ≡ false → t <ℤ z
+below-until z t e = omega (arith, ints)
 
 -- a clock below until, by the tick
 pub until-tick : (o z : ℤ) (t : ℕ) → Ticks o z → (pos t -ℤ o) <ℤ z → t < ticked o z

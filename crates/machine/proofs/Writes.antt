@@ -47,6 +47,7 @@ module _ (w : World) (t : ℕ) (fs : List Flight) (i : Inv w) (o : w .room .open
     aged = s .aged;
     whole = s .whole;
     closed = λ e. absurd (both-ways (w .room .opened) e o);
+    spare = s .spare;
   }
 
   -- so it keeps a room if it is a move
@@ -131,6 +132,7 @@ landed-kept w x f i o e good =
       aged = s .aged;
       whole = s .whole;
       closed = λ e. absurd (both-ways (m .opened) e o);
+      spare = s .spare;
     } in
     kept-by w v i shape refl (Move.lands f (still-of w d (m .opened) (removed x (m .flights))) (gone-of w v x f i e refl)
     (λ q. elim (wrote-bytes (m .disk) r q new l whole good) [

@@ -18,7 +18,7 @@ use Rattle.machine.specs.declared.types.Checked.the-variants.{Granted}
 use Rattle.machine.specs.Room.{Room, World, founded, seat-at, reading}
 use Rattle.machine.specs.Seats.{Hold, hold}
 use Rattle.machine.specs.Claiming.{check-call}
-use Rattle.machine.specs.Holding.{confirm-call}
+use Rattle.machine.specs.Holding.{confirm-call, sign-call}
 use Rattle.machine.specs.Calls.{Call, check, after}
 
 -- host h validly holds resource r: its seat is held, and its own clock reads less than until
@@ -86,6 +86,10 @@ abbrev pub Log-agrees : World → Type 0
 Log-agrees w =
     (r h : ℕ) → (Holds (w .room) h r → Names (entries w) r (w .room .tick) h) × (Names (entries w) r (w .room .tick) h → Holds (w .room) h r)
 
+-- sign answers a host a term exactly when it validly holds the resource
+abbrev pub Signs-exactly : Room → Type 0
+Signs-exactly m = (h r : ℕ) → (Holds m h r → (k : ℕ) × (sign-call m h r ≡ Ok k)) × ((k : ℕ) → sign-call m h r ≡ Ok k → Holds m h r)
+
 -- confirm never answers stolen
 abbrev pub Never-stolen : World → Type 0
 Never-stolen w = (h r : ℕ) (area : List ℕ) → confirm-call w h r area .answer ≡ Ok Stolen → ⊥
@@ -94,6 +98,7 @@ pub record Sound (w : World) : Type 0 where
   pub exclusive : Exclusive (w .room)
   pub vacant : Vacant-before w
   pub agrees : Log-agrees w
+  pub signed : Signs-exactly (w .room)
   pub confirmed : Never-stolen w
 
 -- a newly founded room with a list for its log

@@ -1,0 +1,62 @@
+-- What sign answers.
+use mathlib.Core.Path.{_≡_, refl, sym, ap, _∙_}
+use mathlib.Core.Bool.{Bool, false}
+use mathlib.Core.List.{List, [], _∷_}
+use mathlib.Core.Logic.{_⊎_, inl, inr}
+use Prim.Native.Nat.{ℕ}
+use lib.Signed.{leZ}
+use Rattle.std.proofs.shelf.Tests.{cases-bool, cond-true, cond-false}
+use Rattle.std.specs.declared.option.Option.{Option}
+use Rattle.std.specs.declared.option.Option.the-variants.{Some, None}
+use Rattle.std.specs.declared.result.Result.{Result}
+use Rattle.std.specs.declared.result.Result.the-variants.{Ok, Err}
+use Rattle.disk.specs.declared.fault.Fault.{Fault}
+use Rattle.disk.specs.declared.fault.Refusal.{Refusal}
+use Rattle.disk.specs.declared.fault.Refusal.the-variants.{WrongSeat}
+use Rattle.machine.specs.Room.{Room, seat-at, reading}
+use Rattle.machine.specs.Outcomes.{gate, room-fault, standing}
+use Rattle.machine.specs.Seats.{Hold, hold}
+use Rattle.machine.specs.Holding.{late, signs, sign-by, sign-call}
+use Rattle.machine.specs.Soundness.{Holds}
+use Rattle.machine.proofs.Clash.{clash}
+use Rattle.machine.proofs.Frames.{All-false}
+use Rattle.machine.proofs.Times.{below-until}
+
+-- tests of which none holds let pass
+gate-passes : (m : Room) (xs : List (Bool × Refusal)) → All-false xs → gate m xs ≡ Ok tt
+gate-passes m [] n = refl
+gate-passes m (x ∷ xs) n = cond-false (x .0) (Err (room-fault m (x .1) 0)) (gate m xs) (n .0) ∙ gate-passes m xs (n .1)
+
+-- tests refuse, or none of them holds
+gate-cases : (m : Room) (xs : List (Bool × Refusal)) → ((f : Fault) × (gate m xs ≡ Err f)) ⊎ All-false xs
+gate-cases m [] = inr tt
+gate-cases m (x ∷ xs) = elim (cases-bool (x .0)) [
+  | inl e ↦ inl (room-fault m (x .1) 0, cond-true (x .0) (Err (room-fault m (x .1) 0)) (gate m xs) e)
+  | inr e ↦ elim (gate-cases m xs) [
+    | inl y ↦ inl (y .0, cond-false (x .0) (Err (room-fault m (x .1) 0)) (gate m xs) e ∙ y .1)
+    | inr y ↦ inr (e, y)
+  ]
+]
+
+-- what sign answers of a seat, once the host may call
+abbrev seat-sign : Room → ℕ → Option Hold → Result ℕ Fault
+seat-sign m h y = elim y [ None ↦ Err (room-fault m WrongSeat 0) | Some x ↦ signs m h x (gate m (late m h x ∷ [])) ]
+
+-- a host that may call, with a lease that is not over, is answered its term
+pub sign-answers : (m : Room) (h r : ℕ) (x : Hold) → All-false (standing m h r) → hold (seat-at m h r) ≡ Some x → leZ (x .until) (reading m h) ≡ false → sign-call m h r ≡ Ok (x .term)
+sign-answers m h r x n e soon =
+    ap (sign-by m h r) (gate-passes m (standing m h r) n) ∙ ap (seat-sign m h) e ∙ ap (signs m h x) (gate-passes m (late m h x ∷ []) (soon, tt))
+
+-- whom sign answers a term holds
+pub sign-holds : (m : Room) (h r k : ℕ) → sign-call m h r ≡ Ok k → Holds m h r
+sign-holds m h r k e = elim (gate-cases m (standing m h r)) [
+  | inl y ↦ clash (let z = ap (sign-by m h r) (y .1) in cc)
+  | inr y ↦ seat (hold (seat-at m h r)) refl (sym (ap (sign-by m h r) (gate-passes m (standing m h r) y)) ∙ e)
+]
+  where
+    seat : (y : Option Hold) → hold (seat-at m h r) ≡ y → seat-sign m h y ≡ Ok k → Holds m h r
+    seat None is o = clash (cc)
+    seat (Some x) is o = elim (gate-cases m (late m h x ∷ [])) [
+      | inl y ↦ clash (let z = ap (signs m h x) (y .1) in cc)
+      | inr y ↦ (x, is, below-until (x .until) (reading m h) (y .0))
+    ]
