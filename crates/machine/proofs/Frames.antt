@@ -8,7 +8,7 @@ use native.Mathlib.Omega.{arith}
 use lib.ListN.{length, getD, set}
 use lib.Dec.{eqb, ltb}
 use Rattle.std.proofs.shelf.Lists.{getD-set-same, getD-set-other}
-use Rattle.std.proofs.shelf.Tests.{cases-eq, cond-both, cond-true, cond-false, eqb-true, and-parts, ltb-false}
+use Rattle.std.proofs.shelf.Tests.{ltb-true, cases-eq, cond-both, cond-true, cond-false, eqb-true, and-parts, ltb-false}
 use Rattle.std.proofs.shelf.Ways.{tells}
 use Rattle.std.specs.declared.option.Option.{Option}
 use Rattle.std.specs.declared.option.Option.the-variants.{Some, None}
@@ -125,6 +125,12 @@ module _ (m : Mark) where
       let n = removed-apart fs (a .1) in
       cond-both (same-mark (f .body .mark) m) fs (f ∷ removed m fs) Apart (λ _. a .1) (λ _. (λ g i. a .0 g (removed-in g fs i), n))
 
+  -- a write of another mark stays
+  pub removed-stays : (g : Flight) (fs : List Flight) → In g fs → (g .body .mark ≡ m → ⊥) → In g (removed m fs)
+  removed-stays g [] i n = elim i [ ]
+  removed-stays g (f ∷ fs) here n = cond-both (same-mark (f .body .mark) m) fs (f ∷ removed m fs) (In f) (λ e. absurd (n (mark-same (f .body .mark) m e))) (λ _. here)
+  removed-stays g (f ∷ fs) (there i) n = cond-both (same-mark (f .body .mark) m) fs (f ∷ removed m fs) (In g) (λ _. i) (λ _. there (removed-stays g fs i n))
+
   -- the named write is gone
   pub removed-gone : (g : Flight) (fs : List Flight) → Apart fs → In g (removed m fs) → g .body .mark ≡ m → ⊥
   removed-gone g [] a = λ i. elim i [ ]
@@ -140,6 +146,13 @@ module _ (m : Mark) where
 
 -- the writes that have not run out of time
 module _ (d t : ℕ) where
+  -- a young write stays
+  pub younger-stays : (g : Flight) (fs : List Flight) → In g fs → t ≤ g .issued .0 + d → In g (younger d t fs)
+  younger-stays g [] i late = elim i [ ]
+  younger-stays g (f ∷ fs) here late = cond-both (ltb (f .issued .0 + d) t) (younger d t fs) (f ∷ younger d t fs) (In f) (λ e. absurd (omega (arith, ltb-true (f .issued .0 + d) t e))) (λ _. here)
+  younger-stays g (f ∷ fs) (there i) late = let n = younger-stays g fs i late in cond-both (ltb (f .issued .0 + d) t) (younger d t fs) (f ∷ younger d t fs) (In g) (λ _. n) (λ _. there n)
+
+  -- what is left was there, and is young
   pub younger-in : (g : Flight) (fs : List Flight) → In g (younger d t fs) → In g fs × (t ≤ g .issued .0 + d)
   younger-in g [] = λ i. elim i [ ]
   younger-in g (f ∷ fs) =

@@ -78,7 +78,7 @@ module _ (w : World) (h : ℕ) (i : Inv w) (o : w .room .opened ≡ true) (few :
   -- a crash is a move
   crashed-kept : host-at (w .room) h .up ≡ true → leb (length (w .log)) (w .room .logged) ≡ false → Kept w crashed
   unfolding view
-  crashed-kept up room = kept-by w crashed i crashed-shape refl (Move.crashes h up (elim (crashed-at h) [ inl d ↦ ap (λ (x : Host). x .up) (d .1) | inr d ↦ absurd (d .0 refl) ]) refl (crashed-same (λ x. x .generation) refl) (crashed-same (λ x. x .stamp) refl)
+  crashed-kept up room = kept-by w crashed i crashed-shape refl (Move.crashes h up (elim (crashed-at h) [ inl d ↦ ap (λ (x : Host). x .up) (d .1) | inr d ↦ absurd (d .0 refl) ]) refl (crashed-same (λ x. x .generation) refl)
       (λ g q. elim (crashed-row g) [
         | inl d ↦ inl (d .0, ap (placed (host-at (crashed .room) g .offset)) (ap (λ (ys : List Seat). getD ys q seats.Idle) (d .1) ∙ idle-row q))
         | inr d ↦ inr (
@@ -87,7 +87,7 @@ module _ (w : World) (h : ℕ) (i : Inv w) (o : w .room .opened ≡ true) (few :
           elim (crashed-at g) [ inl e ↦ absurd (d .0 (e .0)) | inr e ↦ ap (λ (x : Host). x .up) (e .1) ],
         )
       ])
-      (λ q. refl) (logged-of w crashed (plain-entry (w .room) events.Crashed h 0 0) room refl) (record { flights = λ n. n }))
+      (λ q. refl) (logged-of w crashed (plain-entry (w .room) events.Crashed h 0 0) room refl) (record { flights = refl; stamps = crashed-same (λ x. x .stamp) refl }))
 
 -- crash keeps a room
 pub crash-kept : (w : World) (h : ℕ) → Inv w → Kept w (crash-call w h .world)
@@ -145,7 +145,7 @@ restarted-kept w h i few down young =
     kept-by w v i
     (hosted-shape w h x i few (omega arith, omega (arith, leb-false 65535 (host-at m h .generation) young)) (λ g q. subst (λ (z : ℤ). Whole z (seat-at m g q)) (sym (offset g)) (i .shape .whole g q))) refl
     (Move.returns h down (hosted-here w h x i few (λ y. y .up)) (hosted-here w h x i few (λ y. y .generation)) (hosted-here w h x i few (λ y. y .stamp))
-    (record { ups = hosted-else w h x i few (λ y. y .up); gens = hosted-else w h x i few (λ y. y .generation); stamps = hosted-else w h x i few (λ y. y .stamp) }) refl seats (λ q. refl) (record { names = λ q. refl; tops = λ q. refl }) (record { flights = λ n. n }))
+    (record { ups = hosted-else w h x i few (λ y. y .up); gens = hosted-else w h x i few (λ y. y .generation); stamps = hosted-else w h x i few (λ y. y .stamp) }) refl seats (λ q. refl) (record { names = λ q. refl; tops = λ q. refl }) refl)
 
 -- restart keeps a room
 pub restart-kept : (w : World) (h : ℕ) → Inv w → Kept w (restart-call w h .world)
@@ -173,7 +173,7 @@ clocked-kept w h z i few shut =
       seats = λ g q. ap (placed (host-at (v .room) g .offset)) (none g q) ∙ sym (ap (placed (host-at m g .offset)) (none g q));
       unlogged = record { names = λ q. refl; tops = λ q. refl };
     })
-    (record { flights = λ n. n }) (λ q. refl))
+    refl (λ q. refl))
 
 -- set clock keeps a room
 pub set-clock-kept : (w : World) (h : ℕ) (z : ℤ) → Inv w → Kept w (set-clock-call w h z .world)

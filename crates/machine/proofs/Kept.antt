@@ -133,12 +133,16 @@ module _ (w : World) (h r : ℕ) (kind : Kind) (term : ℕ) (i : Inv w) (t : Sta
     there = refl;
     owner = refl;
     generation = refl;
-    stamp = omega arith;
+    stamp = refl;
     used = elim (at-set (w .room .hosts) h (one-stamp (w .room) h) no-host (omega (arith, i .shape .hosts, few-hosts (i .shape) t)) h) [
       | inl e ↦ omega (arith, ap (λ (xs : List Host). getD xs h no-host .stamp) hs, ap (λ (x : Host). x .stamp) (e .1))
       | inr e ↦ absurd (e .0 refl)
     ];
-    flights = λ {f} n. elim (in-push f _ (w .room .flights) (subst (In f) fs n)) [ inl o ↦ inl o | inr o ↦ inr (ap (λ (g : Flight). g .issued .0) o, ap (λ (g : Flight). g .body) o) ];
+    others = λ g n. elim (at-set (w .room .hosts) h (one-stamp (w .room) h) no-host (omega (arith, i .shape .hosts, few-hosts (i .shape) t)) g) [
+      | inl e ↦ absurd (n (e .0))
+      | inr e ↦ ap (λ (xs : List Host). getD xs g no-host .stamp) hs ∙ ap (λ (x : Host). x .stamp) (e .1)
+    ];
+    flights = fs;
   }
 
 -- only the disk is another

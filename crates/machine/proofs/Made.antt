@@ -23,14 +23,14 @@ use Rattle.machine.proofs.Step.{Claims, kept, renewing, renewed, granted, Gran
 use Rattle.machine.proofs.Keeps.{step-keeps}
 use Rattle.machine.proofs.Quiet.{quiet-core}
 use Rattle.machine.proofs.Facts.{sole, hold-claim, open-vacant, open-unclaimed, only-claim}
-use Rattle.machine.proofs.Turning.{is-held, vacant-held, begun-here, begun-else, over-back, over-on, ungranted, back, turn-downs, turn-blocks, turn-watches, turn-claims, turn-holds, turn-names, unsent, sent, sent-new, sent-used, over-holds, over-names, begun-names, begun-kept}
+use Rattle.machine.proofs.Turning.{is-held, vacant-held, begun-here, begun-else, over-back, over-on, ungranted, back, turn-downs, turn-blocks, turn-watches, turn-claims, turn-holds, turn-names, unsent, sent, unsent-stamps, sent-stamps, sent-new, sent-used, over-holds, over-names, begun-names, begun-kept}
 
 module _ (s : Settings) (V W : View) (c : Core s V) where
   -- a host notes the record that it read
   notes-step : (h r : ℕ) (x : LeaseRecord) → Turn V W h r (watching x (V .tick)) → Unlogged V W → Unsent V W → vacant (V .seat h r) ≡ true → V .block r ≡ Some x → Step s V W
   notes-step h r x t l u v b = record {
     later = omega (arith, t .tick);
-    ages = λ g. inl (t .gens g, t .stamps g);
+    ages = λ g. inl (t .gens g, unsent-stamps s V W c u g);
     watches = λ e. elim (back s V W c t e) [ inl n ↦ inr (let j = n .1 in let k = n .2 in cc, let k = n .2 in cc) | inr n ↦ inl (n .1) ];
     claims = turn-claims s V W c t refl;
     holds = turn-holds s V W c t refl l;
@@ -45,7 +45,7 @@ module _ (s : Settings) (V W : View) (c : Core s V) where
   leaves-step : (h r : ℕ) (m : Mark) (k i : ℕ) → Turn V W h r idle → Unlogged V W → Unsent V W → V .seat h r ≡ claimed m k i → Step s V W
   leaves-step h r m k i t l u v = record {
     later = omega (arith, t .tick);
-    ages = λ g. inl (t .gens g, t .stamps g);
+    ages = λ g. inl (t .gens g, unsent-stamps s V W c u g);
     watches = turn-watches s V W c t refl;
     claims = turn-claims s V W c t refl;
     holds = turn-holds s V W c t refl l;
@@ -61,7 +61,7 @@ module _ (s : Settings) (V W : View) (c : Core s V) where
       → vacant (V .seat h r) ≡ true → V .block r ≡ Some x → Open s V h r x → Step s V W
   claims-step h r m x t l n v b o = record {
     later = omega (arith, t .tick);
-    ages = λ g. inl (t .gens g, t .stamps g);
+    ages = λ g. inl (t .gens g, sent-stamps s V W c n g);
     watches = turn-watches s V W c t refl;
     claims = λ {h = g} {r = q} {k = k} {i = i} {m = m′} e. elim (back s V W c t e) [ inr j ↦ inl (j .1) | inl j ↦ inr (new g q m′ k i (j .0) (j .1) (j .2)) ];
     holds = turn-holds s V W c t refl l;
@@ -97,7 +97,7 @@ module _ (s : Settings) (V W : View) (c : Core s V) where
       → V .seat h r ≡ held k u p → V .tick < u → Step s V W
   renews-step h r m k u p t l n v soon = record {
     later = omega (arith, t .tick);
-    ages = λ g. inl (t .gens g, t .stamps g);
+    ages = λ g. inl (t .gens g, sent-stamps s V W c n g);
     watches = turn-watches s V W c t refl;
     claims = turn-claims s V W c t refl;
     holds = λ {r = q} e. elim (back s V W c t e) [
@@ -134,7 +134,7 @@ module _ (s : Settings) (V W : View) (c : Core s V) where
       → V .seat h r ≡ held k u p → V .tick < u → Step s V W
   releases-step h r m k u i p t l n v soon = record {
     later = omega (arith, t .tick);
-    ages = λ g. inl (t .gens g, t .stamps g);
+    ages = λ g. inl (t .gens g, sent-stamps s V W c n g);
     watches = turn-watches s V W c t refl;
     claims = turn-claims s V W c t refl;
     holds = over-holds s V W c t (inl l);
@@ -161,7 +161,7 @@ module _ (s : Settings) (V W : View) (c : Core s V) where
   expires-step : (h r : ℕ) (k u t : ℕ) (p : Option Asked) → Turn V W h r idle → Logged V W (note t events.Expired h r k 0) → Unsent V W → V .seat h r ≡ held k u p → Step s V W
   expires-step h r k u i p t l n v = record {
     later = omega (arith, t .tick);
-    ages = λ g. inl (t .gens g, t .stamps g);
+    ages = λ g. inl (t .gens g, unsent-stamps s V W c n g);
     watches = turn-watches s V W c t refl;
     claims = turn-claims s V W c t refl;
     holds = over-holds s V W c t (inr l);
@@ -177,7 +177,7 @@ module _ (s : Settings) (V W : View) (c : Core s V) where
       → V .seat h r ≡ held k u (Some a) → V .tick < u → V .block r ≡ Some x → x .mark ≡ a .mark → Step s V W
   confirms-step h r k u i a x t l n v soon b m = record {
     later = omega (arith, t .tick);
-    ages = λ g. inl (t .gens g, t .stamps g);
+    ages = λ g. inl (t .gens g, unsent-stamps s V W c n g);
     watches = turn-watches s V W c t refl;
     claims = turn-claims s V W c t refl;
     holds = λ {r = q} e. elim (back s V W c t e) [
@@ -202,7 +202,7 @@ module _ (s : Settings) (V W : View) (c : Core s V) where
       → V .seat h r ≡ claimed m k i → V .block r ≡ Some (claim-record r m k) → i + (2 * s .delay + 1) ≤ V .tick → V .tick < i + s .lease → Step s V W
   grants-step h r m k i at t l n v b early soon = record {
     later = omega (arith, t .tick);
-    ages = λ g. inl (t .gens g, t .stamps g);
+    ages = λ g. inl (t .gens g, unsent-stamps s V W c n g);
     watches = turn-watches s V W c t refl;
     claims = turn-claims s V W c t refl;
     holds = λ {h = g} {r = q} {k = k′} {u = u} {p = p} e. elim (back s V W c t e) [
@@ -240,19 +240,19 @@ module _ (s : Settings) (V W : View) (c : Core s V) where
       }
 
   -- a host goes down
-  crashes-step : (h t : ℕ) → W .tick ≡ V .tick → ((g : ℕ) → W .gen g ≡ V .gen g) → ((g : ℕ) → W .stamp g ≡ V .stamp g)
+  crashes-step : (h t : ℕ) → W .tick ≡ V .tick → ((g : ℕ) → W .gen g ≡ V .gen g)
       → ((g q : ℕ) → ((g ≡ h) × (W .seat g q ≡ idle)) ⊎ ((g ≡ h → ⊥) × (W .seat g q ≡ V .seat g q) × (W .up g ≡ V .up g)))
       → ((q : ℕ) → W .block q ≡ V .block q) → Logged V W (note t events.Crashed h 0 0 0) → Unsent V W → Step s V W
-  crashes-step h t now gens stamps seats blocks l n = record {
+  crashes-step h t now gens seats blocks l n = record {
     later = omega arith;
-    ages = λ g. inl (gens g, omega (arith, stamps g));
+    ages = λ g. inl (gens g, unsent-stamps s V W c n g);
     watches = λ {g} {q} e. elim (seats g q) [ inl d ↦ clash (let y = d .1 in cc) | inr d ↦ inl (sym (d .1) ∙ e) ];
     claims = λ {h = g} {r = q} e. elim (seats g q) [ inl d ↦ clash (let y = d .1 in cc) | inr d ↦ inl (sym (d .1) ∙ e) ];
     holds = λ {h = g} {r = q} {k} {u} e. elim (seats g q) [
       | inl d ↦ clash (let y = d .1 in cc)
       | inr d ↦ kept (sym (d .1) ∙ e) (λ _ m. over-on V W (note t events.Crashed h 0 0 0) l q g u refl m (ne-eqb h g (λ y. d .0 (sym y))))
     ];
-    flights = λ i. (inl (n .flights i), omega (arith, c .flight-time (n .flights i) .1));
+    flights = λ {f} i. let j = subst (In f) (n .flights) i in (inl j, omega (arith, c .flight-time j .1));
     blocks = λ {r = q} e. inl (sym (blocks q) ∙ e);
     tops = λ q. inl (ungranted V W (note t events.Crashed h 0 0 0) l q refl);
     names = λ {r = q} {h = g} {u} e. let b = over-back V W (note t events.Crashed h 0 0 0) l q g u refl e in inl (
@@ -308,17 +308,17 @@ module _ (s : Settings) (V W : View) (c : Core s V) where
   }
 
 -- what keeps the seats and loses nothing but writes
-still-step : (s : Settings) (V W : View) (c : Core s V) → Still V W → Unsent V W
+still-step : (s : Settings) (V W : View) (c : Core s V) → Still V W → ((f : Flight) → In f (W .flights) → In f (V .flights))
     → ((r : ℕ) → (W .block r ≡ V .block r) ⊎ (W .block r ≡ None)) → Step s V W
-still-step s V W c t n blocks =
-    fades-step s V W c (omega (arith, t .tick)) (λ f i. (n .flights i, omega (arith, t .tick, c .flight-time (n .flights i) .1))) (t .seats) blocks
+still-step s V W c t sub blocks =
+    fades-step s V W c (omega (arith, t .tick)) (λ f i. (sub f i, omega (arith, t .tick, c .flight-time (sub f i) .1))) (t .seats) blocks
     (λ h e. sym (t .ups h) ∙ e) (λ h. inl (t .gens h, omega (arith, t .stamps h))) (t .unlogged)
 
 -- a host that was down comes back
 returns-step : (s : Settings) (V W : View) (c : Core s V) (h : ℕ) → V .up h ≡ false → W .up h ≡ true → W .gen h ≡ V .gen h + 1 → Changed V W h → W .tick ≡ V .tick
-    → ((g q : ℕ) → W .seat g q ≡ V .seat g q) → Unwritten V W → Unlogged V W → Unsent V W → Step s V W
+    → ((g q : ℕ) → W .seat g q ≡ V .seat g q) → Unwritten V W → Unlogged V W → W .flights ≡ V .flights → Step s V W
 returns-step s V W c h down up next others now seats blocks l n =
-    fades-step s V W c (omega arith) (λ f i. (n .flights i, omega (arith, c .flight-time (n .flights i) .1))) seats (λ q. inl (blocks q))
+    fades-step s V W c (omega arith) (λ f i. let j = subst (In f) n i in (j, omega (arith, c .flight-time j .1))) seats (λ q. inl (blocks q))
     (λ g e. elim (cases-eq g h) [
       | inl d ↦ absurd (both-ways (W .up h) (ap (W .up) (sym d) ∙ e) up)
       | inr d ↦ sym (others .ups g d) ∙ e
@@ -331,21 +331,21 @@ returns-step s V W c h down up next others now seats blocks l n =
 -- so every move keeps the core
 pub move-keeps : (s : Settings) (V W : View) → Core s V → Move s V W → Core s W
 move-keeps s V W c (Move.rests e) = subst (Core s) (sym e) c
-move-keeps s V W c (Move.sets a t n blocks) = step-keeps s V W c (still-step s V W c t n (λ r. inl (blocks r)))
+move-keeps s V W c (Move.sets a t n blocks) = step-keeps s V W c (still-step s V W c t (λ f i. subst (In f) n i) (λ r. inl (blocks r)))
 move-keeps s V W c (Move.opens a t n known old) =
     quiet-core s W
     (record {
       seats = λ h r. t .seats h r ∙ a .seats h r;
-      flights = λ i. a .flights (n .flights i);
+      flights = λ {f} i. a .flights (subst (In f) n i);
       tops = λ r. t .unlogged .tops r ∙ a .tops r;
       names = λ r. t .unlogged .names r ∙ a .names r;
       known = λ {r} {y} e. subst (λ (z : LeaseRecord). Known W (z .mark)) (sym (known r y e)) (inl (omega (arith, t .gens 0)));
     })
-move-keeps s V W c (Move.passes now ups gens stamps seats l blocks flights) =
+move-keeps s V W c (Move.passes now ups gens stamps seats l blocks flights others) =
     step-keeps s V W c (fades-step s V W c (omega arith) flights seats (λ r. inl (blocks r)) (λ h e. sym (ups h) ∙ e) (λ h. inl (gens h, omega (arith, stamps h))) l)
-move-keeps s V W c (Move.loses f t g blocks) = step-keeps s V W c (still-step s V W c t (record { flights = λ {f = e} i. g .flights e i .0 }) (λ r. inl (blocks r)))
+move-keeps s V W c (Move.loses f t g blocks) = step-keeps s V W c (still-step s V W c t (λ e i. g .flights e i .0) (λ r. inl (blocks r)))
 move-keeps s V W c (Move.lands f t g blocks) = step-keeps s V W c (lands-step s V W c f (g .was) (t .tick) (t .ups) (t .gens) (t .stamps) (t .seats) (t .unlogged) (g .flights) blocks)
-move-keeps s V W c (Move.spoils r t n blocks) = step-keeps s V W c (still-step s V W c t n (λ q. elim (blocks q) [ inl d ↦ inr (d .1) | inr d ↦ inl d ]))
+move-keeps s V W c (Move.spoils r t n blocks) = step-keeps s V W c (still-step s V W c t (λ f i. subst (In f) n i) (λ q. elim (blocks q) [ inl d ↦ inr (d .1) | inr d ↦ inl d ]))
 move-keeps s V W c (Move.notes h r x t l n v b) = step-keeps s V W c (notes-step s V W c h r x t l n v b)
 move-keeps s V W c (Move.claims h r m x t l n v b o) = step-keeps s V W c (claims-step s V W c h r m x t l n v b o)
 move-keeps s V W c (Move.grants h r m k i t l n v b early soon) = step-keeps s V W c (grants-step s V W c h r m k i (V .tick) t l n v b early soon)
@@ -354,7 +354,7 @@ move-keeps s V W c (Move.confirms h r k u a x t l n v soon b m) = step-keeps s V
 move-keeps s V W c (Move.releases h r m k u p t l n v soon) = step-keeps s V W c (releases-step s V W c h r m k u (V .tick) p t l n v soon)
 move-keeps s V W c (Move.leaves h r m k i t l n v early) = step-keeps s V W c (leaves-step s V W c h r m k i t l n v)
 move-keeps s V W c (Move.expires h r k u p t l n v over) = step-keeps s V W c (expires-step s V W c h r k u (V .tick) p t l n v)
-move-keeps s V W c (Move.crashes h up down now gens stamps seats blocks l n) = step-keeps s V W c (crashes-step s V W c h (V .tick) now gens stamps seats blocks l n)
+move-keeps s V W c (Move.crashes h up down now gens seats blocks l n) = step-keeps s V W c (crashes-step s V W c h (V .tick) now gens seats blocks l n)
 move-keeps s V W c (Move.returns h down up next used others now seats blocks l n) = step-keeps s V W c (returns-step s V W c h down up next others now seats blocks l n)
 
 -- no move forgets a grant
@@ -370,7 +370,7 @@ pub move-tops : (s : Settings) (V W : View) → Move s V W → (q : ℕ) → V .
 move-tops s V W (Move.rests e) q = let n = ap (λ (X : View). X .top q) e in omega arith
 move-tops s V W (Move.sets a t n blocks) q = unlogged-top V W (t .unlogged) q
 move-tops s V W (Move.opens a t n known old) q = unlogged-top V W (t .unlogged) q
-move-tops s V W (Move.passes now ups gens stamps seats l blocks flights) q = unlogged-top V W l q
+move-tops s V W (Move.passes now ups gens stamps seats l blocks flights others) q = unlogged-top V W l q
 move-tops s V W (Move.loses f t g blocks) q = unlogged-top V W (t .unlogged) q
 move-tops s V W (Move.lands f t g blocks) q = unlogged-top V W (t .unlogged) q
 move-tops s V W (Move.spoils r t n blocks) q = unlogged-top V W (t .unlogged) q
@@ -382,5 +382,5 @@ move-tops s V W (Move.confirms h r k u a x t l n v soon b m) q = logged-top V W 
 move-tops s V W (Move.releases h r m k u p t l n v soon) q = logged-top V W _ l q
 move-tops s V W (Move.leaves h r m k i t l n v early) q = unlogged-top V W l q
 move-tops s V W (Move.expires h r k u p t l n v over) q = logged-top V W _ l q
-move-tops s V W (Move.crashes h up down now gens stamps seats blocks l n) q = logged-top V W _ l q
+move-tops s V W (Move.crashes h up down now gens seats blocks l n) q = logged-top V W _ l q
 move-tops s V W (Move.returns h down up next used others now seats blocks l n) q = unlogged-top V W l q

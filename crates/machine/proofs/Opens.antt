@@ -95,7 +95,7 @@ opened-kept w i shut enough all = record {
   };
   tops = λ r. omega arith;
   moved =
-      Move.opens (shut-untouched w c) (still-of w (w .room .disk) true (w .room .flights)) (record { flights = λ n. n }) founded-is (i .shape .aged 0 (omega arith) .0);
+      Move.opens (shut-untouched w c) (still-of w (w .room .disk) true (w .room .flights)) refl founded-is (i .shape .aged 0 (omega arith) .0);
 }
   where
     c : Closed w

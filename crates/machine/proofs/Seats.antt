@@ -59,7 +59,7 @@ module _ (w : World) (h r : ℕ) (x : Seat) (p : Place) (i : Inv w) (t : Stand w
   seat-turn move = let s = i .shape in kept-by w seat-world i
       (turned-shape w (w .room .hosts) (w .room .flights) (w .room .logged) (w .log) h r x s t (steady-same s) (s .apart) (s .valid) whole) refl
       (move (subst (Turn (view w) (view seat-world) h r) is (turned-turn w (w .room .hosts) (w .room .flights) (w .room .logged) (w .log) h r x s t (steady-same s)))
-      (record { names = λ q. refl; tops = λ q. refl }) (record { flights = λ n. n }))
+      (record { names = λ q. refl; tops = λ q. refl }) (record { flights = refl; stamps = λ g. refl }))
 
   -- it is logged
   abbrev logged-world : LogEntry → World
@@ -72,7 +72,7 @@ module _ (w : World) (h r : ℕ) (x : Seat) (p : Place) (i : Inv w) (t : Stand w
   logged-turn e room move = let s = i .shape in kept-by w (logged-world e) i
       (turned-shape w (w .room .hosts) (w .room .flights) (w .room .logged + 1) (set (w .log) (w .room .logged) e) h r x s t (steady-same s) (s .apart) (s .valid) whole) refl
       (move (subst (Turn (view w) (view (logged-world e)) h r) is (turned-turn w (w .room .hosts) (w .room .flights) (w .room .logged + 1) (set (w .log) (w .room .logged) e) h r x s t (steady-same s)))
-      (logged-of w (logged-world e) e room refl) (record { flights = λ n. n }))
+      (logged-of w (logged-world e) e room refl) (record { flights = refl; stamps = λ g. refl }))
 
   -- it issues a record
   module _ (kind : Kind) (term : ℕ) (spare : leb 9999 (host-at (w .room) h .stamp) ≡ false) (low : 1 ≤ term) (high : term < 1000000) where

@@ -171,7 +171,6 @@ module _ (w : World) (hosts : List Host) (flights : List Flight) (logged : ℕ) 
     awake = t .up;
     ups = y .up;
     gens = y .generation;
-    stamps = y .stamp;
     here = elim (seat-cases h r) [ inl e ↦ ap (λ (o : ℤ). placed o (seat-at (after .room) h r)) (y .offset h) ∙ ap (placed (host-at (w .room) h .offset)) (e .2) | inr e ↦ absurd (e .0 refl refl) ];
     seats = λ g q. elim (seat-cases g q) [
       | inl e ↦ inl (e .0, e .1)

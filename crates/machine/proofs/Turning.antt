@@ -16,6 +16,7 @@ use Rattle.machine.specs.declared.settings.Settings.{Settings}
 use Rattle.format.specs.declared.events.LogEntry.{LogEntry}
 use Rattle.format.specs.declared.events.Event.the-variants as events
 use Rattle.machine.proofs.Clash.{clash}
+use Rattle.machine.proofs.Frames.{in-push}
 use Rattle.machine.specs.View.{watching, Asked, Place, idle, claimed, held, Owner, nobody, lasting, View, In, ended, grant-of}
 use Rattle.machine.specs.Soundness.{begins, ends}
 use Rattle.machine.specs.Moves.{vacant, Turn, Unlogged, Logged, note, Unsent, Sent}
@@ -125,24 +126,35 @@ module _ (s : Settings) (V W : View) (c : Core s V) where
     ],
   )
 
+  -- a turn that issues nothing uses no stamp
+  pub unsent-stamps : Unsent V W → (g : ℕ) → V .stamp g ≤ W .stamp g
+  unsent-stamps u g = omega (arith, u .stamps g)
+
+  -- one that issues a record uses one of its host's
+  pub sent-stamps : {h r : ℕ} {b : LeaseRecord} → Sent V W h r b → (g : ℕ) → V .stamp g ≤ W .stamp g
+  sent-stamps {h} u g = elim (cases-eq g h) [
+    | inl d ↦ omega (arith, u .stamp, u .used, ap (V .stamp) d, ap (W .stamp) d)
+    | inr d ↦ omega (arith, u .others g d)
+  ]
+
   -- nothing was issued
   pub unsent : {h r : ℕ} {x : Place} → Turn V W h r x → Unsent V W → {f : Flight} → In f (W .flights) → (In f (V .flights) ⊎ ((f .issued .0 ≡ V .tick) × Issued s V W (f .body))) × (W .tick ≤ f .issued .0 + s .delay)
-  unsent t u i = (inl (u .flights i), omega (arith, c .flight-time (u .flights i) .1, t .tick))
+  unsent t u {f} i = let j = subst (In f) (u .flights) i in (inl j, omega (arith, c .flight-time j .1, t .tick))
 
   -- one record was issued
   pub sent : {h r : ℕ} {x : Place} {b : LeaseRecord} → Turn V W h r x → Sent V W h r b → Issued s V W b → {f : Flight} → In f (W .flights) → (In f (V .flights) ⊎ ((f .issued .0 ≡ V .tick) × Issued s V W (f .body))) × (W .tick ≤ f .issued .0 + s .delay)
-  sent t u n i = elim (u .flights i) [
+  sent t u n {f} i = elim (in-push f _ (V .flights) (subst (In f) (u .flights) i)) [
     | inl j ↦ (inl j, omega (arith, c .flight-time j .1, t .tick))
-    | inr j ↦ (inr (j .0, subst (Issued s V W) (sym (j .1)) n), omega (arith, j .0, t .tick))
+    | inr j ↦ let at = ap (λ (e : Flight). e .issued .0) j in (inr (at, subst (Issued s V W) (sym (ap (λ (e : Flight). e .body) j)) n), omega (arith, at, t .tick))
   ]
 
   -- the mark of what is sent is new, and used from now on
   pub sent-new : {h r : ℕ} {b : LeaseRecord} → Sent V W h r b → New V (b .mark)
-  sent-new {h} {r} {b} n = (n .generation ∙ ap (V .gen) (sym (n .owner)), rw (n .owner) (n .stamp))
+  sent-new {h} {r} {b} n = (n .generation ∙ ap (V .gen) (sym (n .owner)), rw (n .owner) (omega (arith, n .stamp)))
 
   -- and used from now on
   pub sent-used : {h r : ℕ} {x : Place} {b : LeaseRecord} → Turn V W h r x → Sent V W h r b → Known W (b .mark)
-  sent-used {h} t n = inr (n .generation ∙ sym (t .gens h) ∙ ap (W .gen) (sym (n .owner)), rw (n .owner) (n .used))
+  sent-used {h} t n = inr (n .generation ∙ sym (t .gens h) ∙ ap (W .gen) (sym (n .owner)), rw (n .owner) (omega (arith, n .used)))
 
   -- a held seat that a turn empties, with the entry that says so
   pub over-holds : {h r k t : ℕ} (turn : Turn V W h r idle) (l : Logged V W (note t events.Released h r k 0) ⊎ Logged V W (note t events.Expired h r k 0)) → {g q k′ u : ℕ} {p : Option Asked} → W .seat g q ≡ held k′ u p → Holding s V W g q k′ u p

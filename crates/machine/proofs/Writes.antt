@@ -1,5 +1,5 @@
 -- What the disk's side and time keep: land, lose, spoil, tick.
-use mathlib.Core.Path.{_≡_, refl, ap, subst, _∙_}
+use mathlib.Core.Path.{_≡_, refl, sym, ap, subst, _∙_}
 use mathlib.Core.Bool.{true, false, cond, not, _&&_}
 use mathlib.Core.List.{List, [], _∷_}
 use mathlib.Core.Logic.{inl, inr}
@@ -25,7 +25,7 @@ use Rattle.format.specs.Blocks.{block-of}
 use Rattle.machine.proofs.Records.{reads-back, length-block, spoiled}
 use Rattle.machine.specs.View.{record-of, In, view}
 use Rattle.machine.specs.Moves.{Gone, Move}
-use Rattle.machine.proofs.Frames.{Apart, unless-elim, by-option, find-in, removed-in, removed-apart, removed-gone, younger-in, younger-apart, failed-bytes, wrote-bytes}
+use Rattle.machine.proofs.Frames.{Apart, unless-elim, by-option, find-in, removed-in, removed-apart, removed-gone, removed-stays, younger-in, younger-stays, younger-apart, failed-bytes, wrote-bytes}
 use Rattle.machine.proofs.Shape.{Shape, Inv, Kept}
 use Rattle.machine.proofs.Kept.{kept-by, kept-same, disk-kept, disk-shape, disk-world, still-of, record-here, writing-elim}
 
@@ -63,7 +63,7 @@ tick-kept w i =
     let young = λ (g : Flight) (n : In g fs). younger-in (m .settings .delay) (m .tick + 1) g (m .flights) n in
     unless-elim (λ (y : Outcome (Unit {0})). Kept w (y .world)) w _ (tick-tests m) (λ _. kept-same w i)
     (λ f. flown-kept w (m .tick + 1) fs i (not-false (m .opened) (f .0)) (younger-apart (m .settings .delay) (m .tick + 1) (m .flights) (i .shape .apart)) (λ g n. young g n .0)
-    (Move.passes refl (λ h. refl) (λ h. refl) (λ h. refl) (λ h r. refl) (record { names = λ q. refl; tops = λ q. refl }) (λ r. refl) young))
+    (Move.passes refl (λ h. refl) (λ h. refl) (λ h. refl) (λ h r. refl) (record { names = λ q. refl; tops = λ q. refl }) (λ r. refl) young (λ g n late. younger-stays (m .settings .delay) (m .tick + 1) g (m .flights) n late)))
 
 -- the write with mark x is taken out of flight
 gone-of : (w v : World) (x : Mark) (f : Flight) → Inv w → find x (w .room .flights) ≡ Some f → v .room .flights ≡ removed x (w .room .flights) → Gone (view w) (view v) f
@@ -73,6 +73,7 @@ gone-of w v x f i e is =
     record {
       was = was .0;
       flights = λ g n. let n′ = subst (In g) is n in (removed-in x g (w .room .flights) n′, λ same. removed-gone x g (w .room .flights) (i .shape .apart) n′ (same ∙ was .1));
+      others = λ g n other. subst (In g) (sym is) (removed-stays x g (w .room .flights) n (λ same. other (same ∙ sym (was .1))));
     }
 
 -- lose keeps a room
@@ -101,7 +102,7 @@ spoil-kept w r area i =
     writing-elim P w r new done l refl
     (λ bad f. disk-kept w (after-write (m .disk) r new) i o long (λ q. ap (λ (bs : List ℕ). cond (m .opened && ltb q (m .settings .resources)) (record-of bs) None) (failed-bytes (m .disk) r q new l refl bad)))
     (λ good. kept-by w (disk-world w (after-write (m .disk) r new) i o long) i (disk-shape w (after-write (m .disk) r new) i o long) refl
-    (Move.spoils r (still-of w (after-write (m .disk) r new) (m .opened) (m .flights)) (record { flights = λ n. n }) (λ q. elim (wrote-bytes (m .disk) r q new l refl good) [
+    (Move.spoils r (still-of w (after-write (m .disk) r new) (m .opened) (m .flights)) refl (λ q. elim (wrote-bytes (m .disk) r q new l refl good) [
       | inl e ↦ inl (e .0, ap (λ (bs : List ℕ). cond (m .opened && ltb q (m .settings .resources)) (record-of bs) None) (e .1) ∙ ap (λ (x : Option LeaseRecord). cond (m .opened && ltb q (m .settings .resources)) x None) (spoiled) ∙ cond-both (m .opened && ltb q (m .settings .resources)) None None (λ (x : Option LeaseRecord). x ≡ None) (λ _. refl) (λ _. refl))
       | inr e ↦ inr (ap (λ (bs : List ℕ). cond (m .opened && ltb q (m .settings .resources)) (record-of bs) None) (e .1))
     ]))))

@@ -1,7 +1,7 @@
 -- The moves of a room: what can happen to it, in the subject's own words.
 use mathlib.Core.Path.{_≡_}
 use mathlib.Core.Bool.{Bool, true, false}
-use mathlib.Core.List.{List}
+use mathlib.Core.List.{List, [], _∷_, _++_}
 use mathlib.Core.Logic.{_⊎_}
 use Prim.Native.Nat.{ℕ, _+_, _*_, _≤_, _<_, max}
 use Rattle.std.specs.declared.option.Option.{Option}
@@ -34,7 +34,6 @@ pub record Turn (V W : View) (h r : ℕ) (x : Place) : Type 0 where
   pub awake : V .up h ≡ true
   pub ups : (g : ℕ) → W .up g ≡ V .up g
   pub gens : (g : ℕ) → W .gen g ≡ V .gen g
-  pub stamps : (g : ℕ) → V .stamp g ≤ W .stamp g
   pub here : W .seat h r ≡ x
   pub seats : (g q : ℕ) → ((g ≡ h) × (q ≡ r)) ⊎ ((g ≡ h → q ≡ r → ⊥) × (W .seat g q ≡ V .seat g q))
   pub blocks : (q : ℕ) → W .block q ≡ V .block q
@@ -55,16 +54,18 @@ note t event h r k u = record { tick = record { 0 = t }; event = event; host = h
 
 -- nothing is issued
 pub record Unsent (V W : View) : Type 0 where
-  pub flights : {f : Flight} → In f (W .flights) → In f (V .flights)
+  pub flights : W .flights ≡ V .flights
+  pub stamps : (g : ℕ) → W .stamp g ≡ V .stamp g
 
 -- host h issues b, under its next mark
 pub record Sent (V W : View) (h r : ℕ) (b : LeaseRecord) : Type 0 where
   pub there : b .resource ≡ r
   pub owner : b .mark .owner ≡ h
   pub generation : b .mark .generation ≡ V .gen h
-  pub stamp : V .stamp h < b .mark .stamp
-  pub used : b .mark .stamp ≤ W .stamp h
-  pub flights : {f : Flight} → In f (W .flights) → In f (V .flights) ⊎ ((f .issued .0 ≡ V .tick) × (f .body ≡ b))
+  pub stamp : b .mark .stamp ≡ V .stamp h + 1
+  pub used : W .stamp h ≡ b .mark .stamp
+  pub others : (g : ℕ) → (g ≡ h → ⊥) → W .stamp g ≡ V .stamp g
+  pub flights : W .flights ≡ V .flights ++ (record { body = b; issued = record { 0 = V .tick } } ∷ [])
 
 -- why a record may be claimed over: it is free, or it was watched for a lease
 pub data Open (s : Settings) (V : View) (h r : ℕ) (x : LeaseRecord) : Type 0 where
@@ -87,10 +88,11 @@ pub record Still (V W : View) : Type 0 where
   pub seats : (h r : ℕ) → W .seat h r ≡ V .seat h r
   pub unlogged : Unlogged V W
 
--- f was in flight and is no more, and nothing is issued
+-- f was in flight and is no more, and the other writes are as before
 pub record Gone (V W : View) (f : Flight) : Type 0 where
   pub was : In f (V .flights)
   pub flights : (e : Flight) → In e (W .flights) → In e (V .flights) × (e .body .mark ≡ f .body .mark → ⊥)
+  pub others : (e : Flight) → In e (V .flights) → (e .body .mark ≡ f .body .mark → ⊥) → In e (W .flights)
 
 -- every block reads as before
 abbrev pub Unwritten : View → View → Type 0
@@ -110,19 +112,20 @@ pub data Move (s : Settings) (V W : View) : Type 0 where
   -- nothing changes but the disk's tallies
   rests : W ≡ V → Move s V W
   -- a clock is set, before anything has happened
-  sets : Untouched V → Still V W → Unsent V W → Unwritten V W → Move s V W
+  sets : Untouched V → Still V W → W .flights ≡ V .flights → Unwritten V W → Move s V W
   -- the room opens, before anything has happened: each block reads as its founding record, whose generation 0 is no host's
-  opens : Untouched V → Still V W → Unsent V W → ((r : ℕ) (x : LeaseRecord) → W .block r ≡ Some x → x ≡ founding r) → 1 ≤ V .gen 0 → Move s V W
+  opens : Untouched V → Still V W → W .flights ≡ V .flights → ((r : ℕ) (x : LeaseRecord) → W .block r ≡ Some x → x ≡ founding r) → 1 ≤ V .gen 0 → Move s V W
   -- a tick passes, and writes that are too old are lost
   passes : W .tick ≡ V .tick + 1 → ((h : ℕ) → W .up h ≡ V .up h) → ((h : ℕ) → W .gen h ≡ V .gen h) → ((h : ℕ) → W .stamp h ≡ V .stamp h)
       → ((h r : ℕ) → W .seat h r ≡ V .seat h r) → Unlogged V W → Unwritten V W
-      → ((f : Flight) → In f (W .flights) → In f (V .flights) × (W .tick ≤ f .issued .0 + s .delay)) → Move s V W
+      → ((f : Flight) → In f (W .flights) → In f (V .flights) × (W .tick ≤ f .issued .0 + s .delay))
+      → ((f : Flight) → In f (V .flights) → W .tick ≤ f .issued .0 + s .delay → In f (W .flights)) → Move s V W
   -- a write is lost
   loses : (f : Flight) → Still V W → Gone V W f → Unwritten V W → Move s V W
   -- a write lands
   lands : (f : Flight) → Still V W → Gone V W f → Written V W (f .body .resource) (Some (f .body)) → Move s V W
   -- a block is spoiled
-  spoils : (r : ℕ) → Still V W → Unsent V W → Written V W r None → Move s V W
+  spoils : (r : ℕ) → Still V W → W .flights ≡ V .flights → Written V W r None → Move s V W
   -- a host notes the record that it read
   notes : (h r : ℕ) (x : LeaseRecord) → Turn V W h r (watching x (V .tick)) → Unlogged V W → Unsent V W
       → vacant (V .seat h r) ≡ true → V .block r ≡ Some x → Move s V W
@@ -146,12 +149,12 @@ pub data Move (s : Settings) (V W : View) : Type 0 where
   -- a lease is over
   expires : (h r : ℕ) (k u : ℕ) (p : Option Asked) → Turn V W h r idle → Logged V W (note (V .tick) events.Expired h r k 0) → Unsent V W → V .seat h r ≡ held k u p → u ≤ V .tick → Move s V W
   -- a host goes down
-  crashes : (h : ℕ) → V .up h ≡ true → W .up h ≡ false → W .tick ≡ V .tick → ((g : ℕ) → W .gen g ≡ V .gen g) → ((g : ℕ) → W .stamp g ≡ V .stamp g)
+  crashes : (h : ℕ) → V .up h ≡ true → W .up h ≡ false → W .tick ≡ V .tick → ((g : ℕ) → W .gen g ≡ V .gen g)
       → ((g q : ℕ) → ((g ≡ h) × (W .seat g q ≡ idle)) ⊎ ((g ≡ h → ⊥) × (W .seat g q ≡ V .seat g q) × (W .up g ≡ V .up g)))
       → Unwritten V W → Logged V W (note (V .tick) events.Crashed h 0 0 0) → Unsent V W → Move s V W
   -- a host comes back in its next generation, with no stamp used
   returns : (h : ℕ) → V .up h ≡ false → W .up h ≡ true → W .gen h ≡ V .gen h + 1 → W .stamp h ≡ 0 → Changed V W h → W .tick ≡ V .tick
-      → ((g q : ℕ) → W .seat g q ≡ V .seat g q) → Unwritten V W → Unlogged V W → Unsent V W → Move s V W
+      → ((g q : ℕ) → W .seat g q ≡ V .seat g q) → Unwritten V W → Unlogged V W → W .flights ≡ V .flights → Move s V W
 
 -- a call that is made of a room after any run is one of these moves
 abbrev pub Every-call-moves : Type 0
