@@ -3,7 +3,7 @@ ghost use mathlib.Core.Path.{_≡_};
 ghost use Prim.Native.Nat.{_≤_};
 ghost use lib.ListN.{length};
 
-// The most bytes that a line buffer holds; every line that the library prints is shorter.
+// The most bytes that a line buffer holds; no line that the library prints is longer.
 pub(crate) const LINE_LENGTH: usize = 64;
 
 // The first `len` bytes are the text so far.
