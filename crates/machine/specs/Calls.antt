@@ -22,6 +22,7 @@ use Rattle.machine.specs.Writes.{land-call, lose-call, spoil-call}
 use Rattle.machine.specs.Hosts.{crash-call, restart-call}
 use Rattle.machine.specs.Setup.{set-clock-call, open-call, tick-call}
 
+-- a call with its host, resource, mark, offset and area, as far as it takes them
 pub data Call : Type 0 where
   set-clock : ℕ → ℤ → Call
   open-room : List ℕ → Call
@@ -38,29 +39,35 @@ pub data Call : Type 0 where
   crash : ℕ → Call
   restart : ℕ → Call
 
--- what each kind of call answers, as one kind of answer
+-- most calls answer that they were done
 abbrev pub of-done : Unit {0} → Answer
 of-done _ = answers.Done
 
+-- a renew or a release answers the mark of its write
 abbrev pub of-mark : Mark → Answer
 of-mark mark = answers.Issued mark
 
+-- a try answers that it watches, or the mark of its claim
 abbrev pub of-tried : Tried → Answer
 of-tried tries.Watching = answers.Watching
 of-tried (tries.Claimed mark) = answers.Issued mark
 
+-- a check answers the grant, or that the claim was overwritten
 abbrev pub of-checked : Checked → Answer
 of-checked (checks.Granted term until) = answers.Granted term until
 of-checked checks.Stolen = answers.Stolen
 
+-- a confirm answers that it was done, or that the lease was overwritten
 abbrev pub of-confirmed : Confirmed → Answer
 of-confirmed confirms.Renewed = answers.Done
 of-confirmed confirms.Stolen = answers.Stolen
 
+-- an answer, told as another kind
 abbrev pub answer-by : {A : Type 0} → (A → Answer) → Result A Fault → Result Answer Fault
 answer-by f (Ok x) = Ok (f x)
 answer-by f (Err e) = Err e
 
+-- an outcome, its answer told as another kind
 abbrev pub as-answer : {A : Type 0} → (A → Answer) → Outcome A → Outcome Answer
 as-answer f o = record { answer = answer-by f (o .answer); world = o .world }
 

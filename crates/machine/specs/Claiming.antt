@@ -31,6 +31,7 @@ watching w h r seen =
       world = at-room w (with-seat (w .room) h r (seats.Watching seen (record { 0 = reading (w .room) h })));
     }
 
+-- a write may be issued, and there is a term left
 abbrev pub claim-tests : Room → ℕ → LeaseRecord → List (Bool × Refusal)
 claim-tests m h seen =
     (leb 32 (length (m .flights)), FlightFull) ∷ (leb 9999 (host-at m h .stamp) || leb 999999 (seen .term), NumberSpent) ∷ []
@@ -62,9 +63,11 @@ tried h r w seen = elim (seen .kind) [
   ]
 ]
 
+-- the area is a block long, the host may call, and its seat is idle or watching
 abbrev pub try-tests : Room → ℕ → ℕ → List ℕ → List (Bool × Refusal)
 try-tests m h r area = area-test area ∷ standing m h r ++ ((not (is-vacant (seat-at m h r)), WrongSeat) ∷ [])
 
+-- try reads the block and claims it, or watches it
 unfoldable pub try-call : World → ℕ → ℕ → List ℕ → Outcome Tried
 try-call w h r area = unless w (try-tests (w .room) h r area) (reading-block w r (tried h r))
 
@@ -94,6 +97,7 @@ checked h r x w seen =
     (granted w h r x)
     (record { answer = Ok checks.Stolen; world = stolen w h r })
 
+-- there is room in the log, and the claim is neither too young nor over
 abbrev pub check-tests : World → ℕ → ℤ → List (Bool × Refusal)
 check-tests w h issued =
     let m = w .room in
@@ -102,6 +106,7 @@ check-tests w h issued =
     ∷ (leZ (issued +ℤ pos (m .settings .lease)) (reading m h), Late)
     ∷ []
 
+-- check reads the block, to see whether the claim still stands there
 unfoldable pub check-call : World → ℕ → ℕ → List ℕ → Outcome Checked
 check-call w h r area =
     let m = w .room in

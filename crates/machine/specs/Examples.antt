@@ -44,9 +44,11 @@ example-settings =
       «lease_high» = omega arith;
     }
 
+-- an area, and an image of one block
 abbrev pub zero-block : List ℕ
 zero-block = replicate 512 0
 
+-- what the log list holds at first
 abbrev pub blank-entry : LogEntry
 blank-entry = record { tick = record { 0 = 0 }; event = Granted; host = 0; resource = 0; term = 0; until = record { 0 = 0 } }
 
@@ -54,9 +56,11 @@ blank-entry = record { tick = record { 0 = 0 }; event = Granted; host = 0; resou
 abbrev pub example-world : World
 example-world = fresh-world example-settings (plain zero-block) (blank-entry ∷ [])
 
+-- the mark of the first write of a host
 abbrev pub first-mark : ℕ → Mark
 first-mark host = record { owner = host; generation = 1; stamp = 1 }
 
+-- so many ticks pass
 abbrev pub ticks : ℕ → List Call
 ticks n = replicate n tick
 
@@ -80,6 +84,7 @@ landed-at n = land-call (after example-world (claim-issued ++ ticks n)) (first-m
 abbrev pub watched-for : ℕ → Result Tried Fault
 watched-for n = try-call (after example-world (claim-landed ++ (ticks 5 ++ (try 1 0 zero-block ∷ ticks n)))) 1 0 zero-block .answer
 
+-- a fault of a room above a plain image
 abbrev pub refusal-of : Refusal → Fault
 refusal-of cause = record { cause = cause; number = 0; height = 1 }
 

@@ -34,6 +34,7 @@ abbrev pub signs : Room → ℕ → Hold → Result (Unit {0}) Fault → Result 
 signs m h x (Ok _) = Ok (x .term)
 signs m h x (Err f) = Err f
 
+-- of a host that may call, the seat has to be held
 abbrev pub sign-by : Room → ℕ → ℕ → Result (Unit {0}) Fault → Result ℕ Fault
 sign-by m h r (Ok _) = elim (hold (seat-at m h r)) [
   | None ↦ Err (room-fault m WrongSeat 0)
@@ -41,6 +42,7 @@ sign-by m h r (Ok _) = elim (hold (seat-at m h r)) [
 ]
 sign-by m h r (Err f) = Err f
 
+-- sign answers the term to a host that may call and holds
 abbrev pub sign-call : Room → ℕ → ℕ → Result ℕ Fault
 sign-call m h r = sign-by m h r (gate m (standing m h r))
 
@@ -81,6 +83,7 @@ confirmed h r x p w seen =
     (refused w NotLanded 0)
     (record { answer = Ok confirms.Stolen; world = stolen w h r }))
 
+-- confirm reads the block, to see whether the pending renewal has landed
 unfoldable pub confirm-call : World → ℕ → ℕ → List ℕ → Outcome Confirmed
 confirm-call w h r area =
     let m = w .room in
@@ -108,12 +111,15 @@ release-call w h r =
 abbrev pub ended-tests : World → ℕ → ℤ → List (Bool × Refusal)
 ended-tests w h end = log-test w ∷ (ltZ (reading (w .room) h) end, Early) ∷ []
 
+-- a lease ends at until
 abbrev pub expire-tests : World → ℕ → Hold → List (Bool × Refusal)
 expire-tests w h x = ended-tests w h (x .until)
 
+-- a claim ends a lease after it was issued
 abbrev pub leave-tests : World → ℕ → Claim → List (Bool × Refusal)
 leave-tests w h x = ended-tests w h (x .issued +ℤ pos (w .room .settings .lease))
 
+-- watch makes a seat idle whose lease or claim has run out
 abbrev pub watch-call : World → ℕ → ℕ → Outcome (Unit {0})
 watch-call w h r =
     let m = w .room in

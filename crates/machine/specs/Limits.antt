@@ -18,6 +18,7 @@ pub record Limits (hosts resources delay lease : ℕ) : Type 0 where
   pub lease-low : 2 * delay + 2 ≤ lease
   pub lease-high : lease ≤ 60000
 
+-- settings within the limits
 abbrev pub Bounded : Settings → Type 0
 Bounded s = Limits (s .hosts) (s .resources) (s .delay) (s .lease)
 

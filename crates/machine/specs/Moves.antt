@@ -108,6 +108,7 @@ pub record Changed (V W : View) (h : ℕ) : Type 0 where
   pub gens : (g : ℕ) → (g ≡ h → ⊥) → W .gen g ≡ V .gen g
   pub stamps : (g : ℕ) → (g ≡ h → ⊥) → W .stamp g ≡ V .stamp g
 
+-- from the view V of a room to the view W: what has to hold before, what changes, and what stays
 pub data Move (s : Settings) (V W : View) : Type 0 where
   -- nothing changes but the disk's tallies
   rests : W ≡ V → Move s V W

@@ -35,9 +35,11 @@ abbrev pub then : {A : Type 0} → Result (Unit {0}) Fault → World → Outcome
 then (Ok _) w o = o
 then (Err f) w o = record { answer = Err f; world = w }
 
+-- refuses by the first test that holds, else comes to o
 abbrev pub unless : {A : Type 0} → World → List (Bool × Refusal) → Outcome A → Outcome A
 unless w xs o = then (gate (w .room) xs) w o
 
+-- a call that answers no more than that it was done
 abbrev pub done : World → Outcome (Unit {0})
 done w = record { answer = Ok tt; world = w }
 

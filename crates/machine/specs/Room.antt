@@ -48,9 +48,11 @@ founded s d =
 abbrev pub no-host : Host
 no-host = record { offset = pos 0; up = false; generation = 0; stamp = 0 }
 
+-- host h
 abbrev pub host-at : Room → ℕ → Host
 host-at m h = getD (m .hosts) h no-host
 
+-- the seat of host h for resource r
 abbrev pub seat-at : Room → ℕ → ℕ → Seat
 seat-at m h r = getD (getD (m .seats) h []) r seats.Idle
 
@@ -58,22 +60,27 @@ seat-at m h r = getD (getD (m .seats) h []) r seats.Idle
 abbrev pub reading : Room → ℕ → ℤ
 reading m h = reading-at (m .tick) (host-at m h .offset)
 
--- a room with one part changed
+-- a room with another disk
 abbrev pub with-disk : Room → DiskModel → Room
 with-disk m d = record { settings = m .settings; disk = d; opened = m .opened; tick = m .tick; hosts = m .hosts; seats = m .seats; flights = m .flights; logged = m .logged }
 
+-- with another host h
 abbrev pub with-host : Room → ℕ → Host → Room
 with-host m h x = record { settings = m .settings; disk = m .disk; opened = m .opened; tick = m .tick; hosts = set (m .hosts) h x; seats = m .seats; flights = m .flights; logged = m .logged }
 
+-- with other seats of host h
 abbrev pub with-row : Room → ℕ → List Seat → Room
 with-row m h row = record { settings = m .settings; disk = m .disk; opened = m .opened; tick = m .tick; hosts = m .hosts; seats = set (m .seats) h row; flights = m .flights; logged = m .logged }
 
+-- with another seat of host h for r
 abbrev pub with-seat : Room → ℕ → ℕ → Seat → Room
 with-seat m h r x = with-row m h (set (getD (m .seats) h []) r x)
 
+-- with other writes in flight
 abbrev pub with-flights : Room → List Flight → Room
 with-flights m fs = record { settings = m .settings; disk = m .disk; opened = m .opened; tick = m .tick; hosts = m .hosts; seats = m .seats; flights = fs; logged = m .logged }
 
+-- the same log list with another room
 abbrev pub at-room : World → Room → World
 at-room w m = record { room = m; log = w .log }
 

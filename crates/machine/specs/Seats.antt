@@ -26,6 +26,7 @@ pub record Hold : Type 0 where
   pub until : ℤ
   pub pending : Option Pending
 
+-- the lease of a held seat
 abbrev pub hold : Seat → Option Hold
 hold seats.Idle = None
 hold (seats.Watching seen since) = None
@@ -38,6 +39,7 @@ pub record Claim : Type 0 where
   pub term : ℕ
   pub issued : ℤ
 
+-- the claim of a claimed seat
 abbrev pub claim : Seat → Option Claim
 claim seats.Idle = None
 claim (seats.Watching seen since) = None
@@ -49,20 +51,24 @@ pub record Watch : Type 0 where
   pub seen : LeaseRecord
   pub since : ℤ
 
+-- the watch of a watching seat
 abbrev pub watched : Seat → Option Watch
 watched seats.Idle = None
 watched (seats.Watching seen since) = Some (record { seen = seen; since = since .0 })
 watched (seats.Claimed mark term issued) = None
 watched (seats.Held term until pending) = None
 
+-- two marks are the same if owner, generation and stamp are
 abbrev pub same-mark : Mark → Mark → Bool
 same-mark a b = eqb (a .owner) (b .owner) && (eqb (a .generation) (b .generation) && eqb (a .stamp) (b .stamp))
 
+-- two kinds are the same
 abbrev pub same-kind : Kind → Kind → Bool
 same-kind Free Free = true
 same-kind Free Owned = false
 same-kind Owned Free = false
 same-kind Owned Owned = true
 
+-- two records are the same if kind, resource, mark and term are
 abbrev pub same-record : LeaseRecord → LeaseRecord → Bool
 same-record a b = same-kind (a .kind) (b .kind) && (eqb (a .resource) (b .resource) && (same-mark (a .mark) (b .mark) && eqb (a .term) (b .term)))

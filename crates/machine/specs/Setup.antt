@@ -14,10 +14,12 @@ use Rattle.machine.specs.Room.{Room, World, at-room, host-at, with-host}
 use Rattle.machine.specs.Outcomes.{Outcome, area-test, done, refused, unless}
 use Rattle.machine.specs.Steps.{writing-block}
 
+-- the room is still closed, the host is there, the offset is within a day
 abbrev pub clock-tests : Room → ℕ → ℤ → List (Bool × Refusal)
 clock-tests m h offset =
     (m .opened, NotOpen) ∷ (not (ltb h (m .settings .hosts)), NoSuchHostOrResource) ∷ (not (near offset), BadValue) ∷ []
 
+-- the host with another offset
 abbrev pub with-offset : Room → ℕ → ℤ → Room
 with-offset m h offset =
     let x = host-at m h in
@@ -27,6 +29,7 @@ with-offset m h offset =
 abbrev pub set-clock-call : World → ℕ → ℤ → Outcome (Unit {0})
 set-clock-call w h offset = unless w (clock-tests (w .room) h offset) (done (at-room w (with-offset (w .room) h offset)))
 
+-- the same room, open
 abbrev pub now-open : Room → Room
 now-open m = record { settings = m .settings; disk = m .disk; opened = true; tick = m .tick; hosts = m .hosts; seats = m .seats; flights = m .flights; logged = m .logged }
 
@@ -35,6 +38,7 @@ abbrev pub formatting : World → ℕ → ℕ → Outcome (Unit {0})
 formatting w r zero = done (at-room w (now-open (w .room)))
 formatting w r (suc left) = writing-block w r (block-of (founding r)) (λ w′. formatting w′ (r + 1) left)
 
+-- open formats the blocks of all resources, which have to be there
 unfoldable pub open-call : World → List ℕ → Outcome (Unit {0})
 open-call w area =
     let m = w .room in
@@ -48,6 +52,7 @@ abbrev pub younger : ℕ → ℕ → List Flight → List Flight
 younger delay tick [] = []
 younger delay tick (f ∷ fs) = cond (ltb (f .issued .0 + delay) tick) (younger delay tick fs) (f ∷ younger delay tick fs)
 
+-- the room is open and has a tick left
 abbrev pub tick-tests : Room → List (Bool × Refusal)
 tick-tests m = (not (m .opened), NotOpen) ∷ (leb 999999 (m .tick), NumberSpent) ∷ []
 
@@ -55,5 +60,6 @@ tick-tests m = (not (m .opened), NotOpen) ∷ (leb 999999 (m .tick), NumberSpent
 abbrev pub one-tick-on : Room → Room
 one-tick-on m = record { settings = m .settings; disk = m .disk; opened = m .opened; tick = m .tick + 1; hosts = m .hosts; seats = m .seats; flights = younger (m .settings .delay) (m .tick + 1) (m .flights); logged = m .logged }
 
+-- tick lets a millisecond pass
 abbrev pub tick-call : World → Outcome (Unit {0})
 tick-call w = unless w (tick-tests (w .room)) (done (at-room w (one-tick-on (w .room))))

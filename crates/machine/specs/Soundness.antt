@@ -94,6 +94,7 @@ Signs-exactly m = (h r : ℕ) → (Holds m h r → (k : ℕ) × (sign-call m h r
 abbrev pub Never-stolen : World → Type 0
 Never-stolen w = (h r : ℕ) (area : List ℕ) → confirm-call w h r area .answer ≡ Ok Stolen → ⊥
 
+-- what holds of a room and its log after every run
 pub record Sound (w : World) : Type 0 where
   pub exclusive : Exclusive (w .room)
   pub vacant : Vacant-before w

@@ -21,10 +21,11 @@ use Rattle.format.specs.Times.{natural}
 use Rattle.machine.specs.Room.{Room, World, at-room, host-at, with-disk, with-flights, with-host}
 use Rattle.machine.specs.Outcomes.{Outcome, then}
 
--- the world after block r is read, and after bytes are written to it
+-- the world after block r is read
 abbrev pub read-at : World → ℕ → World
 read-at w r = at-room w (with-disk (w .room) (after-read (w .room .disk) r block-length))
 
+-- the world after bytes are written to block r
 abbrev pub written-at : World → ℕ → List ℕ → World
 written-at w r bytes = at-room w (with-disk (w .room) (after-write (w .room .disk) r bytes))
 
@@ -58,11 +59,12 @@ issued m h kind r term =
     (with-host m h (record { offset = host-at m h .offset; up = host-at m h .up; generation = host-at m h .generation; stamp = host-at m h .stamp + 1 }))
     (m .flights ++ (record { body = record { kind = kind; resource = r; mark = next-mark m h; term = term }; issued = record { 0 = m .tick } } ∷ []))
 
--- the entry of a lease that lasts until a reading of its host, told as a tick; and one without an end
+-- the entry of a lease that lasts until a reading of its host, told as a tick
 abbrev pub lease-entry : Room → Event → ℕ → ℕ → ℕ → ℤ → LogEntry
 lease-entry m event h r term until =
     record { tick = record { 0 = m .tick }; event = event; host = h; resource = r; term = term; until = record { 0 = natural (until +ℤ host-at m h .offset) } }
 
+-- the entry of an event without an end
 abbrev pub plain-entry : Room → Event → ℕ → ℕ → ℕ → LogEntry
 plain-entry m event h r term =
     record { tick = record { 0 = m .tick }; event = event; host = h; resource = r; term = term; until = record { 0 = 0 } }

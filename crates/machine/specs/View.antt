@@ -74,7 +74,7 @@ placed offset (seats.Watching seen since) = watching seen (ticked offset (since 
 placed offset (seats.Claimed mark term issued) = claimed mark term (ticked offset (issued .0))
 placed offset (seats.Held term until pending) = held term (ticked offset (until .0)) (asked offset pending)
 
--- one more entry of the log
+-- who is named after an entry that begins no lease
 abbrev pub ended : LogEntry → ℕ → Owner → Owner
 ended e r nobody = nobody
 ended e r (lasting h u) = cond (ends e h r) nobody (lasting h u)
@@ -108,6 +108,7 @@ abbrev pub record-by : Result LeaseRecord Refusal → Option LeaseRecord
 record-by (Ok x) = Some x
 record-by (Err _) = None
 
+-- the record that bytes read as
 abbrev pub record-of : List ℕ → Option LeaseRecord
 record-of bytes = record-by (decoded bytes)
 

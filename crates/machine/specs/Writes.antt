@@ -22,6 +22,7 @@ abbrev pub find : Mark → List Flight → Option Flight
 find mark [] = None
 find mark (f ∷ fs) = cond (same-mark (f .body .mark) mark) (Some f) (find mark fs)
 
+-- the writes in flight without it
 abbrev pub removed : Mark → List Flight → List Flight
 removed mark [] = []
 removed mark (f ∷ fs) = cond (same-mark (f .body .mark) mark) fs (f ∷ removed mark fs)
@@ -36,6 +37,7 @@ land-call w mark area =
           (λ w′. done (at-room w′ (with-flights (w′ .room) (removed mark (m .flights)))))
     ])
 
+-- lose takes a write out of flight
 abbrev pub lose-call : World → Mark → Outcome (Unit {0})
 lose-call w mark =
     let m = w .room in
@@ -48,8 +50,10 @@ lose-call w mark =
 abbrev pub spoiled-block : List ℕ
 spoiled-block = replicate block-length 255
 
+-- the area is a block long, the room is open, the resource is there
 abbrev pub spoil-tests : Room → ℕ → List ℕ → List (Bool × Refusal)
 spoil-tests m r area = area-test area ∷ (not (m .opened), NotOpen) ∷ (not (ltb r (m .settings .resources)), NoSuchHostOrResource) ∷ []
 
+-- spoil leaves no record in the block
 unfoldable pub spoil-call : World → ℕ → List ℕ → Outcome (Unit {0})
 spoil-call w r area = unless w (spoil-tests (w .room) r area) (writing-block w r spoiled-block done)
