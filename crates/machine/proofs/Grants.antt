@@ -36,8 +36,9 @@ use Rattle.machine.specs.View.{Asked, idle, held, asked, ticked, view, claim-r
 use Rattle.machine.specs.Moves.{Logged, Move, note}
 use Rattle.machine.proofs.Clash.{clash}
 use Rattle.machine.proofs.Core.{landed}
-use Rattle.machine.proofs.Facts.{hold-claim}
-use Rattle.machine.proofs.Frames.{unless-elim, by-option, record-same, mark-same}
+use Rattle.machine.proofs.CoreFacts.{hold-claim}
+use Rattle.machine.proofs.Tests.{unless-elim, by-option}
+use Rattle.machine.proofs.Same.{record-same, mark-same}
 use Rattle.machine.proofs.Times.{Ticks, log-ticked, later-ticked, later-ticks, not-early, not-late, before-until}
 use Rattle.machine.proofs.Shape.{Whole-pending, Inv, Kept, Stand, stands, turned}
 use Rattle.machine.proofs.Kept.{kept-same, kept-from, logged-of, read-view, read-kept, reading-elim, read-world}

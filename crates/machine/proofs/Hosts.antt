@@ -21,7 +21,8 @@ use Rattle.machine.specs.Hosts.{restart-tests, crash-tests, crash-call, restar
 use Rattle.machine.specs.Steps.{plain-entry}
 use Rattle.machine.specs.View.{placed, view}
 use Rattle.machine.specs.Moves.{Move}
-use Rattle.machine.proofs.Frames.{at-set, unless-elim}
+use Rattle.machine.proofs.Places.{at-set}
+use Rattle.machine.proofs.Tests.{unless-elim}
 use Rattle.machine.proofs.Shape.{Whole, Shape, Inv, Kept}
 use Rattle.machine.proofs.Kept.{kept-by, kept-same, logged-of, shut-untouched}
 

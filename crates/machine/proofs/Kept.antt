@@ -25,7 +25,7 @@ use Rattle.disk.specs.declared.fault.Refusal.{Refusal}
 use Rattle.format.specs.Blocks.{decoded}
 use Rattle.format.specs.Stores.{and-then, placed, placed-at, read-answer}
 use Rattle.machine.proofs.Records.{Valid}
-use Rattle.machine.proofs.Blocks.{answer-is, answer-write-is, area-is, read-long}
+use Rattle.machine.proofs.Blocks.{answer-is, answer-write-is, area-is, read-long, read-bytes}
 use Rattle.machine.specs.Room.{Room, World, no-host, host-at, at-room, with-disk}
 use Rattle.machine.specs.Outcomes.{Outcome, then}
 use Rattle.machine.specs.Steps.{next-mark, judged-by, reading-block, writing-block}
@@ -33,9 +33,11 @@ use Rattle.machine.specs.View.{placed as placed-seat, View, record-by, record-
 use Rattle.machine.specs.Soundness.{entries}
 use Rattle.machine.specs.Moves.{Logged, Sent, Still, Untouched, Move}
 use Rattle.machine.proofs.Core.{Core}
-use Rattle.machine.proofs.Keeps.{new-known}
-use Rattle.machine.proofs.Made.{move-keeps, move-tops}
-use Rattle.machine.proofs.Frames.{at-set, Apart, in-push, apart-push, owner-push, highest-push, read-bytes}
+use Rattle.machine.proofs.StepKeeps.{new-known}
+use Rattle.machine.proofs.MoveSteps.{move-keeps, move-tops}
+use Rattle.machine.proofs.Places.{at-set}
+use Rattle.machine.proofs.Flights.{Apart, in-push, apart-push}
+use Rattle.machine.proofs.Logs.{owner-push, highest-push}
 use Rattle.machine.proofs.Shape.{Closed, Shape, Inv, Kept, Stand, few-hosts, few-resources, one-stamp, stamped}
 
 -- a move keeps what every room keeps

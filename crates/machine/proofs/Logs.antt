@@ -3,12 +3,12 @@ use mathlib.Core.Path.{_≡_, refl, sym, ap, _∙_}
 use mathlib.Core.Bool.{true, false}
 use mathlib.Core.List.{List, [], _∷_, _++_}
 use mathlib.Core.Logic.{inl, inr}
-use Prim.Native.Nat.{ℕ, _<_}
+use Prim.Native.Nat.{ℕ, _<_, max}
 use native.Mathlib.Omega.{arith}
 use Rattle.std.proofs.shelf.Tests.{cond-true, cond-false, cases-bool}
 use Rattle.format.specs.declared.events.LogEntry.{LogEntry}
 use Rattle.machine.specs.Soundness.{begins, ends, None-after, Names}
-use Rattle.machine.specs.View.{Owner, nobody, lasting, ended, named-by, owner}
+use Rattle.machine.specs.View.{Owner, nobody, lasting, ended, named-by, owner, grant-of, highest}
 use Rattle.machine.proofs.Clash.{clash}
 
 -- entries after which h is still named
@@ -63,3 +63,13 @@ owner-names log r t h u e late = go (cause nobody log r h u e)
     go : Cause nobody log r h u → Names log r t h
     go (before is n) = clash (cc)
     go (within front x back is begin host until n) = (front, x, back, is, begin, host, omega arith, n)
+
+-- a log with one entry more
+pub owner-push : (o : Owner) (es : List LogEntry) (e : LogEntry) (r : ℕ) → owner o (es ++ (e ∷ [])) r ≡ named-by (owner o es r) e r
+owner-push o [] e r = refl
+owner-push o (x ∷ es) e r = owner-push (named-by o x r) es e r
+
+-- and its highest granted term
+pub highest-push : (n : ℕ) (es : List LogEntry) (e : LogEntry) (r : ℕ) → highest n (es ++ (e ∷ [])) r ≡ max (highest n es r) (grant-of e r)
+highest-push n [] e r = refl
+highest-push n (x ∷ es) e r = highest-push (max n (grant-of x r)) es e r

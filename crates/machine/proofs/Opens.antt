@@ -16,7 +16,7 @@ use Rattle.format.specs.declared.lease.LeaseRecord.{LeaseRecord}
 use Rattle.machine.specs.declared.types.Flight.{Flight}
 use Rattle.disk.specs.declared.fault.Refusal.the-variants.{NotOpen}
 use Rattle.disk.specs.Model.{DiskModel, after-write, block, fails}
-use Rattle.machine.proofs.Blocks.{write-long}
+use Rattle.machine.proofs.Blocks.{write-long, wrote-bytes}
 use Rattle.machine.specs.Room.{Room, World, host-at, at-room, with-disk}
 use Rattle.machine.specs.Outcomes.{Outcome, area-test}
 use Rattle.machine.specs.Setup.{formatting, open-call}
@@ -27,7 +27,7 @@ use Rattle.machine.proofs.Clash.{clash}
 use Rattle.machine.proofs.Core.{Known}
 use Rattle.machine.proofs.Quiet.{Quiet, quiet-core}
 use Rattle.machine.proofs.Records.{Valid, reads-back, length-block}
-use Rattle.machine.proofs.Frames.{unless-elim, wrote-bytes}
+use Rattle.machine.proofs.Tests.{unless-elim}
 use Rattle.machine.proofs.Shape.{Closed, Inv, Kept}
 use Rattle.machine.proofs.Kept.{kept-by, kept-same, kept-from, same-view, still-of, shut-untouched, record-here, writing-elim}
 

@@ -27,7 +27,9 @@ use Rattle.machine.specs.Moves.{Turn, Move}
 use Rattle.machine.proofs.Clash.{clash}
 use Rattle.machine.proofs.Records.{Valid}
 use Rattle.machine.proofs.Core.{Core}
-use Rattle.machine.proofs.Frames.{at-set, seat-set, Apart, All-false}
+use Rattle.machine.proofs.Places.{at-set, seat-set}
+use Rattle.machine.proofs.Flights.{Apart}
+use Rattle.machine.proofs.Tests.{All-false}
 use Rattle.machine.proofs.Times.{Ticks}
 
 -- a seat's times are ticks, and its term is one that a record can hold

@@ -1,17 +1,15 @@
 -- What sign answers.
 use mathlib.Core.Path.{_≡_, refl, sym, ap, _∙_}
-use mathlib.Core.Bool.{Bool, false}
-use mathlib.Core.List.{List, [], _∷_}
-use mathlib.Core.Logic.{_⊎_, inl, inr}
+use mathlib.Core.Bool.{false}
+use mathlib.Core.List.{[], _∷_}
+use mathlib.Core.Logic.{inl, inr}
 use Prim.Native.Nat.{ℕ}
 use lib.Signed.{leZ}
-use Rattle.std.proofs.shelf.Tests.{cases-bool, cond-true, cond-false}
 use Rattle.std.specs.declared.option.Option.{Option}
 use Rattle.std.specs.declared.option.Option.the-variants.{Some, None}
 use Rattle.std.specs.declared.result.Result.{Result}
 use Rattle.std.specs.declared.result.Result.the-variants.{Ok, Err}
 use Rattle.disk.specs.declared.fault.Fault.{Fault}
-use Rattle.disk.specs.declared.fault.Refusal.{Refusal}
 use Rattle.disk.specs.declared.fault.Refusal.the-variants.{WrongSeat}
 use Rattle.machine.specs.Room.{Room, seat-at, reading}
 use Rattle.machine.specs.Outcomes.{gate, room-fault, standing}
@@ -19,24 +17,8 @@ use Rattle.machine.specs.Seats.{Hold, hold}
 use Rattle.machine.specs.Holding.{late, signs, sign-by, sign-call}
 use Rattle.machine.specs.Soundness.{Holds}
 use Rattle.machine.proofs.Clash.{clash}
-use Rattle.machine.proofs.Frames.{All-false}
 use Rattle.machine.proofs.Times.{below-until}
-
--- tests of which none holds let pass
-gate-passes : (m : Room) (xs : List (Bool × Refusal)) → All-false xs → gate m xs ≡ Ok tt
-gate-passes m [] n = refl
-gate-passes m (x ∷ xs) n = cond-false (x .0) (Err (room-fault m (x .1) 0)) (gate m xs) (n .0) ∙ gate-passes m xs (n .1)
-
--- tests refuse, or none of them holds
-gate-cases : (m : Room) (xs : List (Bool × Refusal)) → ((f : Fault) × (gate m xs ≡ Err f)) ⊎ All-false xs
-gate-cases m [] = inr tt
-gate-cases m (x ∷ xs) = elim (cases-bool (x .0)) [
-  | inl e ↦ inl (room-fault m (x .1) 0, cond-true (x .0) (Err (room-fault m (x .1) 0)) (gate m xs) e)
-  | inr e ↦ elim (gate-cases m xs) [
-    | inl y ↦ inl (y .0, cond-false (x .0) (Err (room-fault m (x .1) 0)) (gate m xs) e ∙ y .1)
-    | inr y ↦ inr (e, y)
-  ]
-]
+use Rattle.machine.proofs.Tests.{All-false, gate-passes, gate-cases}
 
 -- what sign answers of a seat, once the host may call
 abbrev seat-sign : Room → ℕ → Option Hold → Result ℕ Fault

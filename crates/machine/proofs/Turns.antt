@@ -22,7 +22,8 @@ use Rattle.machine.specs.Holding.{expire-tests, leave-tests, late, renew-call,
 use Rattle.machine.specs.Claiming.{try-tests, still-tests, claim-tests, watching, claiming, tried, try-call}
 use Rattle.machine.specs.View.{watching as watching-place, idle, claimed, held, asked, ticked, view}
 use Rattle.machine.specs.Moves.{Move, Open, free, still}
-use Rattle.machine.proofs.Frames.{unless-elim, by-kind, by-option, record-same}
+use Rattle.machine.proofs.Tests.{unless-elim, by-kind, by-option}
+use Rattle.machine.proofs.Same.{record-same}
 use Rattle.machine.proofs.Times.{now-ticked, now-ticks, not-early, before-until, past-until}
 use Rattle.machine.proofs.Shape.{Inv, Kept, Stand, stands}
 use Rattle.machine.proofs.Kept.{kept-same, kept-from, read-view, read-kept, reading-elim, read-world}

@@ -16,7 +16,7 @@ use Rattle.format.specs.declared.lease.LeaseRecord.{LeaseRecord}
 use Rattle.machine.specs.declared.types.Flight.{Flight}
 use Rattle.disk.specs.declared.fault.Refusal.the-variants.{NotOpen, NoSuchWrite}
 use Rattle.disk.specs.Model.{after-write, block, fails}
-use Rattle.machine.proofs.Blocks.{write-long}
+use Rattle.machine.proofs.Blocks.{write-long, failed-bytes, wrote-bytes}
 use Rattle.machine.specs.Room.{World, at-room, with-disk, with-flights}
 use Rattle.machine.specs.Outcomes.{Outcome, area-test, refused, done}
 use Rattle.machine.specs.Writes.{spoil-tests, find, removed, land-call, lose-call, spoil-call}
@@ -25,7 +25,8 @@ use Rattle.format.specs.Blocks.{block-of}
 use Rattle.machine.proofs.Records.{reads-back, length-block, spoiled}
 use Rattle.machine.specs.View.{record-of, In, view}
 use Rattle.machine.specs.Moves.{Gone, Move}
-use Rattle.machine.proofs.Frames.{Apart, unless-elim, by-option, find-in, removed-in, removed-apart, removed-gone, removed-stays, younger-in, younger-stays, younger-apart, failed-bytes, wrote-bytes}
+use Rattle.machine.proofs.Flights.{Apart, find-in, removed-in, removed-apart, removed-gone, removed-stays, younger-in, younger-stays, younger-apart}
+use Rattle.machine.proofs.Tests.{unless-elim, by-option}
 use Rattle.machine.proofs.Shape.{Shape, Inv, Kept}
 use Rattle.machine.proofs.Kept.{kept-by, kept-same, disk-kept, disk-shape, disk-world, still-of, record-here, writing-elim}
 

@@ -12,7 +12,7 @@ use Rattle.machine.specs.declared.settings.Settings.{Settings}
 use Rattle.machine.proofs.Clash.{clash}
 use Rattle.machine.specs.View.{watching, Asked, Place, idle, claimed, held, lasting, View, In, claim-record}
 use Rattle.machine.proofs.Core.{Alive, flying, landed, Ours, Known, New, Held-until, Core}
-use Rattle.machine.proofs.Facts.{known-alive, only-claim}
+use Rattle.machine.proofs.CoreFacts.{known-alive, only-claim}
 use Rattle.machine.proofs.Step.{Issued, Landed, kept, renewing, renewed, granted, Step}
 
 -- a new mark is not known

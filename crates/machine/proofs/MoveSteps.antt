@@ -20,10 +20,10 @@ use Rattle.machine.specs.View.{watching, Asked, idle, claimed, held, lasting, 
 use Rattle.machine.specs.Moves.{vacant, Turn, Unlogged, Logged, note, Unsent, Sent, Open, Still, Gone, Unwritten, Changed, Move}
 use Rattle.machine.proofs.Core.{landed, Ours, Known, New, Core}
 use Rattle.machine.proofs.Step.{Claims, kept, renewing, renewed, granted, Granting, Step}
-use Rattle.machine.proofs.Keeps.{step-keeps}
+use Rattle.machine.proofs.StepKeeps.{step-keeps}
 use Rattle.machine.proofs.Quiet.{quiet-core}
-use Rattle.machine.proofs.Facts.{sole, hold-claim, open-vacant, open-unclaimed, only-claim}
-use Rattle.machine.proofs.Turning.{is-held, vacant-held, begun-here, begun-else, over-back, over-on, ungranted, back, turn-downs, turn-blocks, turn-watches, turn-claims, turn-holds, turn-names, unsent, sent, unsent-stamps, sent-stamps, sent-new, sent-used, over-holds, over-names, begun-names, begun-kept}
+use Rattle.machine.proofs.CoreFacts.{sole, hold-claim, open-vacant, open-unclaimed, only-claim}
+use Rattle.machine.proofs.TurnEffects.{is-held, vacant-held, begun-here, begun-else, over-back, over-on, ungranted, back, turn-downs, turn-blocks, turn-watches, turn-claims, turn-holds, turn-names, unsent, sent, unsent-stamps, sent-stamps, sent-new, sent-used, over-holds, over-names, begun-names, begun-kept}
 
 module _ (s : Settings) (V W : View) (c : Core s V) where
   -- a host notes the record that it read

@@ -16,7 +16,7 @@ use Rattle.machine.specs.declared.settings.Settings.{Settings}
 use Rattle.format.specs.declared.events.LogEntry.{LogEntry}
 use Rattle.format.specs.declared.events.Event.the-variants as events
 use Rattle.machine.proofs.Clash.{clash}
-use Rattle.machine.proofs.Frames.{in-push}
+use Rattle.machine.proofs.Flights.{in-push}
 use Rattle.machine.specs.View.{watching, Asked, Place, idle, claimed, held, Owner, nobody, lasting, View, In, ended, grant-of}
 use Rattle.machine.specs.Soundness.{begins, ends}
 use Rattle.machine.specs.Moves.{vacant, Turn, Unlogged, Logged, note, Unsent, Sent}
