@@ -1,19 +1,18 @@
 -- Every disk has the history that its tallies tell.
-use Prim.Native.Nat.{ℕ, _+_, _-_, _<_, _≤_}
+use Prim.Native.Nat.{ℕ, _+_, _-_, _<_}
 use native.Mathlib.Omega.{arith}
-use mathlib.Core.Path.{_≡_, refl, sym, ap, _∙_}
+use mathlib.Core.Path.{_≡_, refl, ap, _∙_}
 use mathlib.Core.Bool.{Bool, true, false, cond, _&&_}
 use mathlib.Core.List.{List, [], _∷_}
-use mathlib.Core.Logic.{⊎-elim}
-use lib.Dec.{eqb, leb, ltb}
-use lib.ListN.{length, set, length-set}
+use lib.Dec.{eqb, ltb}
+use lib.ListN.{length, length-set}
 use lib.Seq.{getD-set-same, getD-set-other}
 use Rattle.std.specs.declared.result.Result.the-variants.{Ok, Err}
-use Rattle.std.proofs.shelf.Tests.{eqb-true, eqb-false, and-parts, and-cases, and-left, cond-both}
+use Rattle.std.proofs.shelf.Tests.{eqb-true, and-parts, cond-both}
 use Rattle.std.proofs.shelf.Ways.{tells}
-use Rattle.disk.specs.Model.{Block, DiskModel, block-length, count, block, no-block, with-block, fails, failure, after-failure, after-success, reaches, access-answer, after-access}
+use Rattle.disk.specs.Model.{Block, DiskModel, block-length, count, block, no-block, with-block, fails, failure, after-failure, after-success, reaches, after-access}
 use Rattle.disk.specs.Tallies.{next-fails}
-use Rattle.disk.specs.History.{Access, read-of, write-of, after-one, after-run, comes-to, arrivals, fails-after, bytes-left, last-written, block-after-run, Ran, History}
+use Rattle.disk.specs.History.{Access, read-of, write-of, after-one, after-run, comes-to, arrivals, fails-after, bytes-left, last-written, block-after-run, History}
 use Rattle.disk.proofs.Accesses.{reached}
 
 -- the tallies after one access

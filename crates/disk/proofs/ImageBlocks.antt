@@ -10,7 +10,7 @@ use Rattle.std.specs.Iters.{counting}
 use Rattle.std.proofs.shelf.Counted.{length-map-counting, getD-map-counting}
 use Rattle.std.proofs.shelf.Lists.{same-lists, getD-take, getD-drop, getD-append-left, getD-append-right, take-at, drop-at}
 use Rattle.std.proofs.shelf.Tests.{cases-eq, cases-lt}
-use Rattle.disk.specs.Model.{Block, DiskModel, with-block, after-success}
+use Rattle.disk.specs.Model.{Block, with-block, after-success}
 use Rattle.disk.specs.Images.{block-bytes, overwritten, plain, plain-block, plain-outside, whole-blocks}
 
 -- a list by its indices, changed at one

@@ -2,18 +2,18 @@
 use Prim.Native.Nat.{ℕ, _+_, _-_, _/_, _<_, _≤_}
 use native.Mathlib.Omega.{arith}
 use native.Mathlib.Nat.{div-eq-of-lt, div-eq-sub-div}
-use mathlib.Core.Path.{_≡_, refl, sym, ap, subst, _∙_}
+use mathlib.Core.Path.{_≡_, refl, sym, ap, _∙_}
 use mathlib.Core.Bool.{Bool, true, false, cond, _&&_}
-use mathlib.Core.List.{List, map}
+use mathlib.Core.List.{List}
 use mathlib.Core.Logic.{⊎-elim}
 use lib.Dec.{eqb, ltb}
-use lib.ListN.{length, set, getD, replicate, length-set}
+use lib.ListN.{replicate, length-set}
 use lib.Seq.{getD-set-same}
 use Rattle.std.specs.Results.{isOk}
 use Rattle.std.specs.declared.result.Result.{Result}
 use Rattle.std.specs.declared.result.Result.the-variants.{Ok, Err}
 use Rattle.std.proofs.shelf.Lists.{set-set, set-getD, map-set}
-use Rattle.std.proofs.shelf.Tests.{cases-eq, cases-lt, and-parts, and-cases, and-left, and-right, and-from, ltb-true, ltb-false, eqb-true, eqb-false, eq-eqb, lt-ltb, le-ltb, ne-eqb, both-ways}
+use Rattle.std.proofs.shelf.Tests.{cases-eq, cases-lt, and-parts, and-cases, and-left, and-right, and-from, ltb-true, ltb-false, eqb-true, eqb-false, lt-ltb, le-ltb, ne-eqb, both-ways}
 use Rattle.disk.specs.declared.fault.Fault.{Fault}
 use Rattle.disk.specs.Model.{Block, DiskModel, count, block, no-block, with-block, fails, failure, after-failure, after-success, access-answer, after-access, area-after-read}
 use Rattle.disk.specs.Layers.{retried-block, retried}

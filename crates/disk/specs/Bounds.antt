@@ -1,13 +1,13 @@
 -- The count and the blocks of each kind of disk, and that they keep the bounds.
-use Prim.Native.Nat.{ℕ, _+_, _-_, _*_, _/_, min, _<_, _≤_}
+use Prim.Native.Nat.{ℕ, _+_, _-_, min, _<_}
 use native.Mathlib.Omega.{arith}
 use native.Mathlib.Nat.{div-le-self}
-use mathlib.Core.Path.{_≡_, refl, _∙_}
+use mathlib.Core.Path.{_≡_, _∙_}
 use mathlib.Core.List.{List}
-use lib.ListN.{length, take, drop, length-take, length-drop}
+use lib.ListN.{drop, length-take, length-drop}
 use Rattle.std.proofs.shelf.Counted.{length-map-counting, getD-map-counting}
 use Rattle.std.proofs.shelf.Lists.{getD-take, getD-drop, length-map, getD-map}
-use Rattle.disk.specs.Model.{Block, DiskModel, Bounds, count, block, no-block}
+use Rattle.disk.specs.Model.{DiskModel, Bounds, count, block, no-block}
 use Rattle.disk.specs.declared.tally.Tally.{Tally}
 use Rattle.disk.specs.Tallies.{tally}
 use Rattle.disk.specs.Images.{plain, plain-block, whole-blocks, tired, tired-block, tired-count}

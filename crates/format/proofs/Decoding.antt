@@ -15,7 +15,6 @@ use Rattle.disk.specs.declared.fault.Refusal.the-variants.{NotARecord}
 use Rattle.format.specs.declared.lease.Kind.{Kind}
 use Rattle.format.specs.declared.lease.Kind.the-variants.{Free, Owned}
 use Rattle.format.specs.declared.lease.LeaseRecord.{LeaseRecord}
-use Rattle.format.specs.Bytes.{bytes-of, number-of}
 use Rattle.format.specs.Blocks.{valid, in-range, fits-kind, block-of, Written, same-bytes, kind-number, kind-of, fields-of, decoded}
 use Rattle.format.proofs.Alike.{same-self, same-so}
 use Rattle.format.proofs.ByteOrder.{byte-order}

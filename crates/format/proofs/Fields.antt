@@ -3,17 +3,16 @@ use mathlib.Core.Path.{_≡_, refl, sym, ap, subst, _∙_}
 use mathlib.Core.Bool.{Bool, true, false, cond, _&&_, not}
 use mathlib.Core.List.{List, [], _∷_, _++_}
 use mathlib.Core.Logic.{inl, inr}
-use Prim.Native.Nat.{ℕ, _+_, _-_, _*_, _<_, _≤_, _^_}
+use Prim.Native.Nat.{ℕ, _+_, _-_, _<_, _≤_, _^_}
 use native.Mathlib.Omega.{arith}
 use lib.Dec.{eqb}
 use lib.ListN.{length, take, drop, getD}
 use Rattle.std.specs.Written.{decimal}
-use Rattle.std.specs.shelf.Lists.{All}
 use Rattle.std.proofs.shelf.Lists.{length-append, getD-append-left, getD-append-right, take-at, drop-at, append-assoc}
 use Rattle.std.proofs.shelf.Elements.{all-getD, all-from-getD}
 use Rattle.std.proofs.shelf.Decimals.{decimal-reads, same-from-decimal, length-decimal-le}
 use Rattle.std.proofs.shelf.Numerals.{digit-at}
-use Rattle.std.proofs.shelf.Tests.{cases-order, and-parts, eqb-false, not-true, cond-both}
+use Rattle.std.proofs.shelf.Tests.{cases-order, and-parts, eqb-false, not-true}
 use Rattle.format.specs.declared.events.Event.{Event}
 use Rattle.format.specs.declared.events.Event.the-variants.{Granted, Renewed, Released, Expired, Crashed}
 use Rattle.format.specs.Texts.{spaced, number-or-dash, Spaceless}

@@ -1,23 +1,20 @@
 -- The line of an entry: its length, and that it tells the entry and the offset.
 use mathlib.Core.Path.{_≡_, refl, sym, ap, _∙_}
-use mathlib.Core.Bool.{Bool, true, false, cond, _&&_}
+use mathlib.Core.Bool.{Bool, true, false}
 use mathlib.Core.List.{List, [], _∷_, _++_}
-use Prim.Native.Nat.{ℕ, _+_, _<_, _≤_, _^_}
+use Prim.Native.Nat.{ℕ, _≤_}
 use native.Mathlib.Omega.{arith}
 use lib.Dec.{leb}
 use lib.IntN.{ℤ}
 use lib.ListN.{length}
-use Rattle.std.specs.Written.{decimal}
 use Rattle.std.proofs.shelf.Lists.{length-append, append-assoc}
 use Rattle.std.proofs.shelf.Decimals.{length-decimal-le, same-from-decimal}
 use Rattle.std.proofs.shelf.Tests.{and-parts, leb-true}
 use Rattle.std.proofs.shelf.Ways.{tells}
-use Rattle.format.specs.declared.events.Event.{Event}
-use Rattle.format.specs.declared.events.Event.the-variants.{Granted, Renewed, Released, Expired, Crashed}
 use Rattle.format.specs.declared.events.LogEntry.{LogEntry}
 use Rattle.format.specs.Texts.{spaced, number-or-dash}
 use Rattle.format.specs.Offsets.{near, offset-text}
-use Rattle.format.specs.Logs.{event-word, has-lease, has-until, fits-field, printable, line-text, Lines-differ}
+use Rattle.format.specs.Logs.{has-lease, has-until, fits-field, printable, line-text, Lines-differ}
 use Rattle.format.proofs.Signs.{length-seconds, same-offset}
 use Rattle.format.proofs.Fields.{spaceless-decimal, spaceless-word, spaceless-number, same-parts, same-event, same-number, all-but-last, length-number, length-word}
 

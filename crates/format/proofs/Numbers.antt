@@ -1,18 +1,18 @@
 -- Digits and the numbers that they write.
 use mathlib.Core.Path.{_≡_, _∙_, ap, sym, subst}
-use mathlib.Core.List.{List, [], _∷_, _++_}
+use mathlib.Core.List.{List}
 use mathlib.Core.Logic.{inl, inr}
-use Prim.Native.Nat.{ℕ, _+_, _-_, _*_, _/_, _%_, _<_, _≤_, _^_}
+use Prim.Native.Nat.{ℕ, _+_, _-_, _*_, _<_, _≤_, _^_}
 use native.Mathlib.Omega.{arith}
-use lib.ListN.{length, take, drop, getD}
+use lib.ListN.{length, take, getD}
 use Rattle.std.specs.Reads.{Digits, value}
-use Rattle.std.specs.Text.{digitValue, In}
+use Rattle.std.specs.Text.{digitValue}
 use Rattle.std.specs.Written.{decimal}
-use Rattle.std.proofs.shelf.Lists.{take-all, length-take}
+use Rattle.std.proofs.shelf.Lists.{length-take}
 use Rattle.std.proofs.shelf.Ways.{tells}
 use Rattle.std.proofs.shelf.Tests.{cases-eq}
 use Rattle.std.proofs.shelf.Digits.{value-more, digits-more}
-use Rattle.std.proofs.shelf.Numerals.{Numerals, numerals-by-value, tells-digits, value-short, digit-at}
+use Rattle.std.proofs.shelf.Numerals.{Numerals, numerals-by-value, tells-digits, value-short}
 use Rattle.std.proofs.shelf.Decimals.{decimal-reads, decimal-value, decimal-some, first-decimal, length-decimal-le, decimal-digit}
 use Rattle.std.specs.Options.{Cases}
 use Rattle.std.specs.declared.option.Option.{Option}

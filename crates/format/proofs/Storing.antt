@@ -1,19 +1,17 @@
 -- Reading a record answers it exactly when its block is there to be read.
-use mathlib.Core.Path.{_≡_, refl, sym, ap, subst, _∙_}
+use mathlib.Core.Path.{_≡_, refl, sym, ap, _∙_}
 use mathlib.Core.Bool.{Bool, true, false, cond, not, _&&_}
 use mathlib.Core.List.{List}
 use Prim.Native.Nat.{ℕ}
 use native.Mathlib.Omega.{arith}
-use lib.Dec.{eqb, ltb}
-use lib.ListN.{length, replicate}
-use Rattle.std.proofs.shelf.Tests.{and-parts, eqb-true}
+use lib.ListN.{replicate}
 use Rattle.std.specs.declared.result.Result.{Result}
 use Rattle.std.specs.declared.result.Result.the-variants.{Ok, Err}
 use Rattle.disk.specs.declared.fault.Fault.{Fault}
 use Rattle.disk.specs.declared.fault.Refusal.{Refusal}
-use Rattle.disk.specs.Model.{DiskModel, block, block-length, count, fails, failure, inadmissible, reaches, access-answer, area-after-read, height-above}
+use Rattle.disk.specs.Model.{DiskModel, block, fails, failure, inadmissible, reaches, access-answer, area-after-read, height-above}
 use Rattle.format.specs.declared.lease.LeaseRecord.{LeaseRecord}
-use Rattle.format.specs.Blocks.{Written, decoded}
+use Rattle.format.specs.Blocks.{decoded}
 use Rattle.format.specs.Stores.{Held, and-then, placed, placed-at, read-answer}
 use Rattle.format.proofs.Decoding.{exact}
 

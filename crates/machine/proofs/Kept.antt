@@ -2,12 +2,12 @@
 use mathlib.Core.Path.{_≡_, refl, sym, ap, subst, fun-ext, _∙_}
 use mathlib.Core.Bool.{Bool, true, false, cond, _&&_}
 use mathlib.Core.List.{List, [], _∷_, _++_}
-use mathlib.Core.Logic.{_⊎_, inl, inr}
+use mathlib.Core.Logic.{inl, inr}
 use Prim.Native.Nat.{ℕ, _+_, _≤_, _<_}
 use native.Mathlib.Omega.{arith}
 use lib.ListN.{length, getD, set, take}
 use lib.Dec.{leb, ltb}
-use Rattle.std.proofs.shelf.Lists.{length-set, take-more-set}
+use Rattle.std.proofs.shelf.Lists.{take-more-set}
 use Rattle.std.proofs.shelf.Tests.{leb-false, cond-both, cond-true, and-from, lt-ltb, both-ways}
 use Rattle.std.specs.declared.option.Option.the-variants.{Some, None}
 use Rattle.std.specs.declared.option.Option.{Option}

@@ -17,7 +17,7 @@ use Rattle.format.specs.declared.events.LogEntry.{LogEntry}
 use Rattle.format.specs.declared.events.Event.the-variants as events
 use Rattle.machine.proofs.Clash.{clash}
 use Rattle.machine.specs.View.{watching, Asked, idle, claimed, held, lasting, View, In, claim-record}
-use Rattle.machine.specs.Moves.{vacant, Turn, Unlogged, Logged, note, Unsent, Sent, Open, Still, Gone, Unwritten, Changed, Move}
+use Rattle.machine.specs.Moves.{vacant, Turn, Unlogged, Logged, note, Unsent, Sent, Open, Still, Unwritten, Changed, Move}
 use Rattle.machine.proofs.Core.{landed, Ours, Known, New, Core}
 use Rattle.machine.proofs.Step.{Claims, kept, renewing, renewed, granted, Granting, Step}
 use Rattle.machine.proofs.StepKeeps.{step-keeps}

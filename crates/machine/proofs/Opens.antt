@@ -5,23 +5,19 @@ use mathlib.Core.List.{List, [], _∷_}
 use mathlib.Core.Logic.{inl, inr}
 use Prim.Native.Nat.{ℕ, _+_, _≤_, _<_}
 use native.Mathlib.Omega.{arith}
-use lib.ListN.{length, take}
+use lib.ListN.{length}
 use lib.Dec.{ltb}
-use Rattle.std.proofs.shelf.Lists.{length-set}
 use Rattle.std.proofs.shelf.Tests.{cond-both, cond-false, ltb-false, both-ways, cases-lt, and-left, le-ltb}
-use Rattle.std.specs.declared.option.Option.{Option}
 use Rattle.std.specs.declared.option.Option.the-variants.{Some, None}
-use Rattle.format.specs.declared.lease.Mark.{Mark}
 use Rattle.format.specs.declared.lease.LeaseRecord.{LeaseRecord}
-use Rattle.machine.specs.declared.types.Flight.{Flight}
 use Rattle.disk.specs.declared.fault.Refusal.the-variants.{NotOpen}
-use Rattle.disk.specs.Model.{DiskModel, after-write, block, fails}
+use Rattle.disk.specs.Model.{DiskModel, after-write, block}
 use Rattle.machine.proofs.Blocks.{write-long, wrote-bytes}
-use Rattle.machine.specs.Room.{Room, World, host-at, at-room, with-disk}
+use Rattle.machine.specs.Room.{Room, World, at-room, with-disk}
 use Rattle.machine.specs.Outcomes.{Outcome, area-test}
 use Rattle.machine.specs.Setup.{formatting, open-call}
 use Rattle.format.specs.Blocks.{founding, block-of}
-use Rattle.machine.specs.View.{placed, View, In, nobody, view, record-at, record-of, owner, highest}
+use Rattle.machine.specs.View.{view, record-at, record-of, owner}
 use Rattle.machine.specs.Moves.{Move}
 use Rattle.machine.proofs.Clash.{clash}
 use Rattle.machine.proofs.Core.{Known}

@@ -1,10 +1,9 @@
 -- The records that a room writes are read back, and a spoiled block is none.
 use mathlib.Core.Path.{_≡_, refl, sym, ap, _∙_}
-use mathlib.Core.Bool.{true, _&&_, _||_}
+use mathlib.Core.Bool.{true}
 use mathlib.Core.Logic.{_⊎_, inl, inr}
-use Prim.Native.Nat.{ℕ, _≤_, _<_}
+use Prim.Native.Nat.{_≤_, _<_}
 use native.Mathlib.Omega.{arith}
-use lib.Dec.{leb, eqb}
 use lib.ListN.{length}
 use Rattle.std.proofs.shelf.Tests.{and-from, or-left, or-right}
 use Rattle.std.proofs.shelf.Ways.{tells}
@@ -12,7 +11,7 @@ use Rattle.std.specs.declared.option.Option.the-variants.{Some, None}
 use Rattle.format.specs.declared.lease.Kind.{Kind}
 use Rattle.format.specs.declared.lease.Kind.the-variants.{Free, Owned}
 use Rattle.format.specs.declared.lease.LeaseRecord.{LeaseRecord}
-use Rattle.format.specs.Blocks.{valid, in-range, fits-kind, used, unused, block-of, decoded}
+use Rattle.format.specs.Blocks.{in-range, fits-kind, used, unused, block-of, decoded}
 use Rattle.format.proofs.Decoding.{decodes}
 pub use Rattle.format.proofs.Decoding.{length-block}
 use Rattle.machine.specs.View.{record-by, record-of}

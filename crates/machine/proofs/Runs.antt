@@ -18,7 +18,6 @@ use Rattle.disk.specs.Model.{DiskModel}
 use Rattle.machine.specs.Room.{World, founded, no-host, host-at, seat-at, reading}
 use Rattle.machine.specs.Seats.{hold}
 use Rattle.machine.specs.Calls.{Call, set-clock, open-room, tick, try, check, renew, confirm, release, watch, land, lose, spoil, crash, restart, perform, after}
-use Rattle.machine.specs.Limits.{Bounded}
 use Rattle.machine.specs.Soundness.{Signs-exactly, Never-stolen, fresh-world, Holds, Exclusive, Grants, Rising, Vacant-before, Log-agrees, Stays-sound, entries}
 use Rattle.machine.specs.View.{held, placed, asked, ticked, view}
 use Rattle.machine.specs.Moves.{Every-call-moves}

@@ -20,7 +20,7 @@ use Rattle.machine.specs.declared.types.Checked.{Checked}
 use Rattle.machine.specs.declared.types.Checked.the-variants as checks
 use Rattle.machine.specs.Room.{Room, World, at-room, host-at, noted, reading, seat-at, with-seat}
 use Rattle.machine.specs.Outcomes.{Outcome, area-test, log-test, refused, standing, unless}
-use Rattle.machine.specs.Seats.{Claim, Watch, claim, is-vacant, same-record, watched}
+use Rattle.machine.specs.Seats.{Claim, claim, is-vacant, same-record, watched}
 use Rattle.machine.specs.Steps.{issued, lease-entry, next-mark, reading-block}
 
 -- the seat watches the record from now

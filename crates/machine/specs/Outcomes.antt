@@ -9,7 +9,7 @@ use Rattle.std.specs.declared.result.Result.the-variants.{Ok, Err}
 use Rattle.disk.specs.declared.fault.Refusal.{Refusal}
 use Rattle.disk.specs.declared.fault.Refusal.the-variants.{WrongLength, NotOpen, NoSuchHostOrResource, HostDown, LogFull}
 use Rattle.disk.specs.declared.fault.Fault.{Fault}
-use Rattle.disk.specs.Model.{DiskModel, block-length, height-above}
+use Rattle.disk.specs.Model.{block-length, height-above}
 use Rattle.machine.specs.Room.{Room, World, host-at}
 
 -- a call that answers an A

@@ -1,5 +1,4 @@
-use mathlib.Core.Path.{_≡_, _∙_, ap, subst}
-use Prim.Native.Nat.{_<_}
+use mathlib.Core.Path.{_∙_, ap, subst}
 use borrow.Author.Needs.{needs}
 use native.Mathlib.Omega.{arith}
 use Rattle.std.specs.Reads.{Digits, value}

@@ -1,14 +1,12 @@
 use borrow.Author.Needs.{needs}
 use native.Mathlib.Omega.{arith}
 use mathlib.Core.Path.{_≡_, _∙_}
-use mathlib.Core.Bool.{true, false}
+use mathlib.Core.Bool.{true}
 use mir.Syntax.{w32}
 use mir.Val.{SFits}
 use Rattle.std.proofs.shelf.Signed.{toZ-ofZ}
 use Rattle.std.proofs.shelf.Tests.{true≢false}
-use Rattle.std.specs.Written.{decimal}
-use Rattle.format.specs.Logs.{event-word, has-lease, has-until, line-text}
-use Rattle.format.specs.Texts.{number-or-dash}
+use Rattle.format.specs.Logs.{has-lease, has-until, line-text}
 use Rattle.format.proofs.Fields.{spaceless-decimal, spaceless-word, spaceless-number}
 use Rattle.format.proofs.Lines.{ranges}
 use Rattle.format.proofs.line.candidate.Needs as need

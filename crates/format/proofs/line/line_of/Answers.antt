@@ -1,8 +1,7 @@
 use borrow.Author.Needs.{needs}
-use mathlib.Core.Path.{_≡_, ap, sym, _∙_}
-use mathlib.Core.List.{[], _∷_, _++_}
-use Rattle.std.proofs.shelf.Lists.{append-assoc}
-use Rattle.format.specs.Texts.{held, cut, spaced, number-or-dash}
+use mathlib.Core.Path.{_≡_, ap, _∙_}
+use mathlib.Core.List.{_++_}
+use Rattle.format.specs.Texts.{held, cut}
 use Rattle.format.specs.Offsets.{offset-text}
 use Rattle.format.specs.Logs.{has-lease, has-until, line-text}
 use Rattle.format.proofs.Cutting.{two, whole}

@@ -1,7 +1,3 @@
-use native.Mathlib.Omega.{arith}
-use mathlib.Core.Path.{sym, _∙_}
-use mathlib.Core.Bool.{true, false}
-use Rattle.std.proofs.shelf.Decimals.{same-from-decimal}
 use Rattle.format.proofs.Fields.{number-is, number-none}
 use Rattle.format.proofs.line.number_in.Needs as need
 

@@ -1,6 +1,5 @@
 use borrow.Author.Needs.{needs}
 use mathlib.Core.Path.{_≡_, sym}
-use lib.IntN.{ℤ}
 use Rattle.format.specs.Offsets.{offset-text}
 use Rattle.format.proofs.Fields.{all-but-last}
 use Rattle.format.proofs.line.offset_in.Needs as need

@@ -1,8 +1,6 @@
-use borrow.Author.Needs.{needs}
-use mathlib.Core.Path.{_≡_, ap, _∙_}
+use mathlib.Core.Path.{ap, _∙_}
 use mathlib.Core.List.{[], _∷_, _++_}
 use Rattle.format.specs.Texts.{held, cut, spaced}
-use Rattle.format.specs.Logs.{event-word}
 use Rattle.format.proofs.Cutting.{two}
 use Rattle.format.proofs.line.push_event.Needs as need
 

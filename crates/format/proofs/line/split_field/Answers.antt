@@ -1,7 +1,7 @@
 use native.Mathlib.Omega.{arith}
 use mathlib.Core.Path.{_≡_, _∙_, ap}
 use Prim.Native.Nat.{_+_, _-_}
-use lib.ListN.{length, take, drop}
+use lib.ListN.{take}
 use Rattle.std.proofs.shelf.Lists.{take-rest}
 use Rattle.format.proofs.Fields.{within, field-is, rest-is}
 use Rattle.format.proofs.line.split_field.Needs as need

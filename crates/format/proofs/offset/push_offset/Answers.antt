@@ -1,12 +1,10 @@
 use borrow.Author.Needs.{needs}
-use mathlib.Core.Path.{_≡_, ap, sym, _∙_}
-use mathlib.Core.List.{[], _∷_, _++_}
-use Prim.Native.Nat.{_+_, _/_, _%_}
+use mathlib.Core.Path.{_≡_, ap, _∙_}
+use mathlib.Core.List.{_∷_, _++_}
 use lib.IntN.{natAbs}
-use Rattle.std.specs.Written.{decimal}
 use Rattle.std.proofs.shelf.Lists.{append-assoc}
 use Rattle.format.specs.Texts.{held, cut}
-use Rattle.format.specs.Offsets.{sign, seconds-text, offset-text}
+use Rattle.format.specs.Offsets.{sign, seconds-text}
 use Rattle.format.proofs.Cutting.{two}
 use Rattle.format.proofs.offset.push_offset.Needs as need
 

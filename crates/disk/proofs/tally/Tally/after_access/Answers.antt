@@ -1,4 +1,4 @@
-use mathlib.Core.Path.{refl, sym, _∙_}
+use mathlib.Core.Path.{refl, sym}
 use borrow.Author.Needs.{needs}
 use Rattle.disk.proofs.TiredBlocks.{failing-leaves, passing-leaves}
 use Rattle.disk.proofs.tally.Tally.after_access.Needs as need

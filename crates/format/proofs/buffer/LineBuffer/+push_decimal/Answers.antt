@@ -1,5 +1,4 @@
 use borrow.Author.Needs.{needs}
-use native.Mathlib.Omega.{arith}
 use Rattle.format.proofs.Cutting.{one-digit, more-digits}
 use Rattle.format.proofs.buffer.LineBuffer.+push_decimal.Needs as need
 

@@ -1,4 +1,3 @@
-use native.Mathlib.Omega.{arith}
 use mathlib.Core.Path.{_∙_, ap, sym}
 use mathlib.Core.List.{[], _∷_, _++_}
 use lib.ListN.{getD, take}
