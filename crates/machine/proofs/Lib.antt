@@ -26,3 +26,4 @@ pub mod Hosts
 pub mod Opens
 pub mod Runs
 pub mod Published
+pub mod Refusing

@@ -10,6 +10,7 @@ pub mod Hosts
 pub mod Setup
 pub mod Calls
 pub mod Soundness
+pub mod Refusing
 pub mod View
 pub mod Moves
 pub mod Examples

@@ -110,14 +110,17 @@ pub record Changed (V W : View) (h : ℕ) : Type 0 where
 
 -- from the view V of a room to the view W: what has to hold before, what changes, and what stays
 pub data Move (s : Settings) (V W : View) : Type 0 where
-  -- nothing changes but the disk's tallies
+  -- nothing that the view shows changes: a refused call leaves other tallies, or blocks of a room that is still closed
   rests : W ≡ V → Move s V W
   -- a clock is set, before anything has happened
   sets : Untouched V → Still V W → W .flights ≡ V .flights → Unwritten V W → Move s V W
   -- the room opens, before anything has happened: each block reads as its founding record, whose generation 0 is no host's
-  opens : Untouched V → Still V W → W .flights ≡ V .flights → ((r : ℕ) (x : LeaseRecord) → W .block r ≡ Some x → x ≡ founding r) → 1 ≤ V .gen 0 → Move s V W
-  -- a tick passes, and writes that are too old are lost
-  passes : W .tick ≡ V .tick + 1 → ((h : ℕ) → W .up h ≡ V .up h) → ((h : ℕ) → W .gen h ≡ V .gen h) → ((h : ℕ) → W .stamp h ≡ V .stamp h)
+  opens : Untouched V → Still V W → W .flights ≡ V .flights
+      → ((r : ℕ) (x : LeaseRecord) → W .block r ≡ Some x → x ≡ founding r)
+      → 1 ≤ V .gen 0 → Move s V W
+  -- a tick passes, and the writes that are too old are lost
+  passes : W .tick ≡ V .tick + 1
+      → ((h : ℕ) → W .up h ≡ V .up h) → ((h : ℕ) → W .gen h ≡ V .gen h) → ((h : ℕ) → W .stamp h ≡ V .stamp h)
       → ((h r : ℕ) → W .seat h r ≡ V .seat h r) → Unlogged V W → Unwritten V W
       → ((f : Flight) → In f (W .flights) → In f (V .flights) × (W .tick ≤ f .issued .0 + s .delay))
       → ((f : Flight) → In f (V .flights) → W .tick ≤ f .issued .0 + s .delay → In f (W .flights)) → Move s V W
@@ -128,34 +131,49 @@ pub data Move (s : Settings) (V W : View) : Type 0 where
   -- a block is spoiled
   spoils : (r : ℕ) → Still V W → W .flights ≡ V .flights → Written V W r None → Move s V W
   -- a host notes the record that it read
-  notes : (h r : ℕ) (x : LeaseRecord) → Turn V W h r (watching x (V .tick)) → Unlogged V W → Unsent V W
+  notes : (h r : ℕ) (x : LeaseRecord)
+      → Turn V W h r (watching x (V .tick)) → Unlogged V W → Unsent V W
       → vacant (V .seat h r) ≡ true → V .block r ≡ Some x → Move s V W
   -- a host claims over the record that it read
-  claims : (h r : ℕ) (m : Mark) (x : LeaseRecord) → Turn V W h r (claimed m (x .term + 1) (V .tick)) → Unlogged V W → Sent V W h r (claim-record r m (x .term + 1))
+  claims : (h r : ℕ) (m : Mark) (x : LeaseRecord)
+      → Turn V W h r (claimed m (x .term + 1) (V .tick)) → Unlogged V W → Sent V W h r (claim-record r m (x .term + 1))
       → vacant (V .seat h r) ≡ true → V .block r ≡ Some x → Open s V h r x → Move s V W
   -- a claim is granted
-  grants : (h r : ℕ) (m : Mark) (k i : ℕ) → Turn V W h r (held k (i + s .lease) None) → Logged V W (note (V .tick) events.Granted h r k (i + s .lease)) → Unsent V W
-      → V .seat h r ≡ claimed m k i → V .block r ≡ Some (claim-record r m k) → i + (2 * s .delay + 1) ≤ V .tick → V .tick < i + s .lease → Move s V W
+  grants : (h r : ℕ) (m : Mark) (k i : ℕ)
+      → Turn V W h r (held k (i + s .lease) None)
+      → Logged V W (note (V .tick) events.Granted h r k (i + s .lease)) → Unsent V W
+      → V .seat h r ≡ claimed m k i → V .block r ≡ Some (claim-record r m k)
+      → i + (2 * s .delay + 1) ≤ V .tick → V .tick < i + s .lease → Move s V W
   -- a holder asks for a renewal
-  renews : (h r : ℕ) (m : Mark) (k u : ℕ) (p : Option Asked) → Turn V W h r (held k u (Some (record { mark = m; at = V .tick }))) → Unlogged V W → Sent V W h r (claim-record r m k)
+  renews : (h r : ℕ) (m : Mark) (k u : ℕ) (p : Option Asked)
+      → Turn V W h r (held k u (Some (record { mark = m; at = V .tick }))) → Unlogged V W → Sent V W h r (claim-record r m k)
       → V .seat h r ≡ held k u p → V .tick < u → Move s V W
   -- a renewal is confirmed
-  confirms : (h r : ℕ) (k u : ℕ) (a : Asked) (x : LeaseRecord) → Turn V W h r (held k (a .at + s .lease) None) → Logged V W (note (V .tick) events.Renewed h r k (a .at + s .lease)) → Unsent V W
+  confirms : (h r : ℕ) (k u : ℕ) (a : Asked) (x : LeaseRecord)
+      → Turn V W h r (held k (a .at + s .lease) None)
+      → Logged V W (note (V .tick) events.Renewed h r k (a .at + s .lease)) → Unsent V W
       → V .seat h r ≡ held k u (Some a) → V .tick < u → V .block r ≡ Some x → x .mark ≡ a .mark → Move s V W
   -- a holder releases
-  releases : (h r : ℕ) (m : Mark) (k u : ℕ) (p : Option Asked) → Turn V W h r idle → Logged V W (note (V .tick) events.Released h r k 0) → Sent V W h r (record { kind = Free; resource = r; mark = m; term = k })
+  releases : (h r : ℕ) (m : Mark) (k u : ℕ) (p : Option Asked)
+      → Turn V W h r idle → Logged V W (note (V .tick) events.Released h r k 0)
+      → Sent V W h r (record { kind = Free; resource = r; mark = m; term = k })
       → V .seat h r ≡ held k u p → V .tick < u → Move s V W
   -- a claim is given up, once it can be checked
-  leaves : (h r : ℕ) (m : Mark) (k i : ℕ) → Turn V W h r idle → Unlogged V W → Unsent V W → V .seat h r ≡ claimed m k i → i + (2 * s .delay + 1) ≤ V .tick → Move s V W
+  leaves : (h r : ℕ) (m : Mark) (k i : ℕ)
+      → Turn V W h r idle → Unlogged V W → Unsent V W
+      → V .seat h r ≡ claimed m k i → i + (2 * s .delay + 1) ≤ V .tick → Move s V W
   -- a lease is over
-  expires : (h r : ℕ) (k u : ℕ) (p : Option Asked) → Turn V W h r idle → Logged V W (note (V .tick) events.Expired h r k 0) → Unsent V W → V .seat h r ≡ held k u p → u ≤ V .tick → Move s V W
+  expires : (h r : ℕ) (k u : ℕ) (p : Option Asked)
+      → Turn V W h r idle → Logged V W (note (V .tick) events.Expired h r k 0) → Unsent V W
+      → V .seat h r ≡ held k u p → u ≤ V .tick → Move s V W
   -- a host goes down
   crashes : (h : ℕ) → V .up h ≡ true → W .up h ≡ false → W .tick ≡ V .tick → ((g : ℕ) → W .gen g ≡ V .gen g)
       → ((g q : ℕ) → ((g ≡ h) × (W .seat g q ≡ idle)) ⊎ ((g ≡ h → ⊥) × (W .seat g q ≡ V .seat g q) × (W .up g ≡ V .up g)))
       → Unwritten V W → Logged V W (note (V .tick) events.Crashed h 0 0 0) → Unsent V W → Move s V W
   -- a host comes back in its next generation, with no stamp used
-  returns : (h : ℕ) → V .up h ≡ false → W .up h ≡ true → W .gen h ≡ V .gen h + 1 → W .stamp h ≡ 0 → Changed V W h → W .tick ≡ V .tick
-      → ((g q : ℕ) → W .seat g q ≡ V .seat g q) → Unwritten V W → Unlogged V W → W .flights ≡ V .flights → Move s V W
+  returns : (h : ℕ) → V .up h ≡ false → W .up h ≡ true → W .gen h ≡ V .gen h + 1 → W .stamp h ≡ 0 → Changed V W h
+      → W .tick ≡ V .tick → ((g q : ℕ) → W .seat g q ≡ V .seat g q)
+      → Unwritten V W → Unlogged V W → W .flights ≡ V .flights → Move s V W
 
 -- a call that is made of a room after any run is one of these moves
 abbrev pub Every-call-moves : Type 0
