@@ -6,5 +6,5 @@ use Rattle.queue.proofs.insert_due.Goals as goal
 
 pub returns : goal.returns
 returns g c =
-    c.insert-at.ensures
+    c.insert_at.ensures
     ∙ placed_by (by_tick g.T.Due.tick) c.args.entry c.args.count (c.args.count - 0) c.args.list.now c.place-at.result (omega arith) c.place-at.ensures

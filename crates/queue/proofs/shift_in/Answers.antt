@@ -15,4 +15,4 @@ shifted : {X : Type 0} (xs : List X) (e : X) → 0 < length xs
 shifted xs e h = rw length-set (brought xs (length xs - 1) e (omega arith))
 
 pub returns : goal.returns
-returns g c = c.rotate-right.ensures.after ∙ shifted c.args.part.now c.args.entry c.requires
+returns g c = c.rotate_right.ensures.after ∙ shifted c.args.part.now c.args.entry c.requires

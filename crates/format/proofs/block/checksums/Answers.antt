@@ -8,5 +8,5 @@ loop-at-preserved c = (
   search rules,
   omega arith,
   omega arith,
-  sym (sums_step c.args.front.now c.loop-at.at c.loop-at.s c.loop-at.t c.from-be-bytes-word.result (omega arith) (search rules)) ∙ c.loop-at.invariant.4,
+  sym (sums_step c.args.front.now c.loop-at.at c.loop-at.s c.loop-at.t c.from_be_bytes-word.result (omega arith) (search rules)) ∙ c.loop-at.invariant.4,
 )

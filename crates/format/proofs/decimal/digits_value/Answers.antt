@@ -5,27 +5,27 @@ use Rattle.std.proofs.lemmas.Str.Parse.{digit_at}
 use Rattle.format.proofs.Numbers.{small, value_step, digits_step}
 use Rattle.format.proofs.decimal.digits_value.Goals as goal
 
-pub overflow-mul-n : goal.overflow-mul-n
-overflow-mul-n c = let s = small c.args.digits.now c.loop-digit.digit-index c.requires c.loop-digit-test.true c.loop-digit.invariant.0 in let e = c.loop-digit.invariant.1 in search rules
+pub overflow_mul-n : goal.overflow_mul-n
+overflow_mul-n c = let s = small c.args.digits.now c.loop-digit.digit-index c.requires c.loop-digit-test.true c.loop-digit.invariant.0 in let e = c.loop-digit.invariant.1 in search rules
 
-pub overflow-add-n : goal.overflow-add-n
-overflow-add-n c =
+pub overflow_add-n : goal.overflow_add-n
+overflow_add-n c =
     let s = small c.args.digits.now c.loop-digit.digit-index c.requires c.loop-digit-test.true c.loop-digit.invariant.0 in
     let e = c.loop-digit.invariant.1 in
-    let d = c.if-not-is-ascii-digit.ensures.cases in
+    let d = c.if-not-is_ascii_digit.ensures.cases in
     search rules
 
 pub loop-digit-preserved : goal.loop-digit-preserved
 loop-digit-preserved c =
-    let d = c.if-not-is-ascii-digit.ensures.cases in (
+    let d = c.if-not-is_ascii_digit.ensures.cases in (
       digits_step c.args.digits.now c.loop-digit.digit-index c.loop-digit-test.true c.loop-digit.invariant.0 (omega arith) (omega arith),
       value_step c.args.digits.now c.loop-digit.digit-index c.loop-digit.n c.loop-digit-test.true c.loop-digit.invariant.1 (omega arith) (omega arith),
     )
 
-pub returns-then-not-is-ascii-digit : goal.returns-then-not-is-ascii-digit
-returns-then-not-is-ascii-digit c all =
+pub returns-then-not-is_ascii_digit : goal.returns-then-not-is_ascii_digit
+returns-then-not-is_ascii_digit c all =
     let d = digit_at c.args.digits.now c.loop-digit.digit-index all c.loop-digit-test.true in
-    let n = c.if-not-is-ascii-digit.ensures.cases in
+    let n = c.if-not-is_ascii_digit.ensures.cases in
     grind arith
 
 pub returns : goal.returns

@@ -12,17 +12,17 @@ returns c =
     let e = c.args.entry in
     let z = c.args.offset in
     let t = held c.new-line.result in
-    let offset : held c.push-offset.new.line ≡ cut (held c.push-field-5.new.self ++ offset_text z) = search rules in
-    let a = two t _ _ _ _ c.push-field.ensures c.push-event.ensures in
-    let b = two t _ _ _ _ a c.push-field-2.ensures in
-    let d = two t _ _ _ _ b c.push-field-3.ensures in
-    let f = two t _ _ _ _ d c.push-field-4.ensures in
-    let g = two t _ _ _ _ f c.push-field-5.ensures in
+    let offset : held c.push_offset.new.line ≡ cut (held c.push_field-5.new.self ++ offset_text z) = search rules in
+    let a = two t _ _ _ _ c.push_field.ensures c.push_event.ensures in
+    let b = two t _ _ _ _ a c.push_field-2.ensures in
+    let d = two t _ _ _ _ b c.push_field-3.ensures in
+    let f = two t _ _ _ _ d c.push_field-4.ensures in
+    let g = two t _ _ _ _ f c.push_field-5.ensures in
     let h = two t _ _ _ _ g offset in
     let i = two t _ _ _ _ h c.push.ensures in
     let host : c.from.result ≡ e.host = search rules in
     let resource : c.from-2.result ≡ e.resource = search rules in
-    let lease : c.has-lease-lease.result ≡ has_lease e.event = search rules in
+    let lease : c.has_lease-lease.result ≡ has_lease e.event = search rules in
     let until : c.has_until.result ≡ has_until e.event = search rules in
     whole t (held c.push.new.self) (line_text e z) c.new-line.ensures
     (i ∙ ap (λ w. cut (t ++ w)) (joined _ _ _ _ _ _ _ ∙ simp (host, resource, lease, until)))

@@ -5,5 +5,5 @@ use Rattle.format.proofs.line.push_event.Goals as goal
 
 pub returns : goal.returns
 returns c =
-    two (held c.args.line.now) _ _ _ (32 ∷ []) c.push-all.ensures c.push.ensures
+    two (held c.args.line.now) _ _ _ (32 ∷ []) c.push_all.ensures c.push.ensures
     ∙ ap (λ w. cut (held c.args.line.now ++ spaced w [])) c.word.ensures

@@ -8,5 +8,5 @@ use Rattle.format.proofs.offset.offset_line.Goals as goal
 pub returns : goal.returns
 returns c =
     let long = length_offset c.args.offset c.requires in
-    let made : held c.push-offset.new.line ≡ cut (held c.new-line.result ++ offset_text c.args.offset) = search rules in
+    let made : held c.push_offset.new.line ≡ cut (held c.new-line.result ++ offset_text c.args.offset) = search rules in
     whole _ _ (offset_text c.args.offset) c.new-line.ensures made (omega arith)

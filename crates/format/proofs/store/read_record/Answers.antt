@@ -5,33 +5,33 @@ use Rattle.format.specs.Stores.{read_answer, and_then, placed}
 use Rattle.format.proofs.Storing.{refused_area, reads_exactly}
 use Rattle.format.proofs.store.read_record.Goals as goal
 
-pub returns-in-err-read : goal.returns-in-err-read
+pub returns-in_err-read : goal.returns-in_err-read
 unfolding read_answer
-returns-in-err-read g c =
+returns-in_err-read g c =
     let m = g.D.Disk.meaning c.args.disk.now in
     let n = c.args.resource in
     let size = length c.args.area.now in
-    let refused = c.in-err-read.ensures.answer in
-    let p = err_from_is_err_and c.from-residual.result c.from-residual.ensures.1 in
-    let e : c.from-residual.result ≡ read_answer m n size = p.1 ∙ ap Err p.2 ∙ ap (λ a. and_then a (placed n (height_above m.height) (area_after_read m n size))) refused in
+    let refused = c.in_err-read.ensures.answer in
+    let p = err_from_is_err_and c.from_residual.result c.from_residual.ensures.1 in
+    let e : c.from_residual.result ≡ read_answer m n size = p.1 ∙ ap Err p.2 ∙ ap (λ a. and_then a (placed n (height_above m.height) (area_after_read m n size))) refused in
     record {
       answer = e;
-      exact = λ x. reads_exactly m n size x c.from-residual.result e;
+      exact = λ x. reads_exactly m n size x c.from_residual.result e;
       disk = c.read.ensures.disk;
       outside = c.read.ensures.outside;
       area = c.read.ensures.area ∙ refused_area m n size _ (sym refused);
     }
 
-pub returns-in-err-lease : goal.returns-in-err-lease
+pub returns-in_err-lease : goal.returns-in_err-lease
 unfolding read_answer
-returns-in-err-lease g c =
+returns-in_err-lease g c =
     let m = g.D.Disk.meaning c.args.disk.now in
     let n = c.args.resource in
     let size = length c.args.area.now in
-    let e : c.from-residual-in-err-lease.result ≡ read_answer m n size = search rules in
+    let e : c.from_residual-in_err-lease.result ≡ read_answer m n size = search rules in
     record {
       answer = e;
-      exact = λ x. reads_exactly m n size x c.from-residual-in-err-lease.result e;
+      exact = λ x. reads_exactly m n size x c.from_residual-in_err-lease.result e;
       disk = c.read.ensures.disk;
       outside = c.read.ensures.outside;
       area = search rules;
@@ -43,10 +43,10 @@ returns g c =
     let m = g.D.Disk.meaning c.args.disk.now in
     let n = c.args.resource in
     let size = length c.args.area.now in
-    let e : Ok c.in-ok-lease.lease ≡ read_answer m n size = search rules in
+    let e : Ok c.in_ok-lease.lease ≡ read_answer m n size = search rules in
     record {
       answer = e;
-      exact = λ x. reads_exactly m n size x (Ok c.in-ok-lease.lease) e;
+      exact = λ x. reads_exactly m n size x (Ok c.in_ok-lease.lease) e;
       disk = c.read.ensures.disk;
       outside = c.read.ensures.outside;
       area = search rules;

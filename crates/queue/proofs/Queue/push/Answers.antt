@@ -20,5 +20,5 @@ returns g c =
     let xs = c.args.self.now.list.now in
     let room : c.args.self.now.count < length xs = omega arith in
     let answer = room_answer s c.args.self.now.count xs room in
-    let after = room_after s c.args.entry c.args.self.now.count xs _ room c.insert-due.ensures in
+    let after = room_after s c.args.entry c.args.self.now.count xs _ room c.insert_due.ensures in
     record { answer = answer; after = after; room = search rules; lent = search rules; law = push_law s _ c.args.entry _ _ _ answer after }

@@ -14,11 +14,11 @@ returns-then-count-eq0 g c =
     let after = none_after s c.args.t c.args.self.now.count xs none in
     record { answer = answer; after = after; room = search rules; lent = search rules; law = take_law s (by_tick_lawful g.T.Due.tick) c.args.t _ _ _ answer after }
 
-pub returns-then-not-is-due : goal.returns-then-not-is-due
-returns-then-not-is-due g c =
+pub returns-then-not-is_due : goal.returns-then-not-is_due
+returns-then-not-is_due g c =
     let s = by_tick g.T.Due.tick in
     let xs = c.args.self.now.list.now in
-    let early : s.is_due c.args.t (get_or xs 0 c.index-self-0.result) ≡ false = sym c.if-not-is-due.ensures in
+    let early : s.is_due c.args.t (get_or xs 0 c.index-self-0.result) ≡ false = sym c.if-not-is_due.ensures in
     let answer = early_answer s c.args.t c.args.self.now.count xs c.index-self-0.result early in
     let after = early_after s c.args.t c.args.self.now.count xs c.index-self-0.result early in
     record { answer = answer; after = after; room = search rules; lent = search rules; law = take_law s (by_tick_lawful g.T.Due.tick) c.args.t _ _ _ answer after }
@@ -27,7 +27,7 @@ pub returns : goal.returns
 returns g c =
     let s = by_tick g.T.Due.tick in
     let xs = c.args.self.now.list.now in
-    let due : s.is_due c.args.t (get_or xs 0 c.index-self-0.result) ≡ true = sym c.if-not-is-due.ensures in
-    let answer = due_answer s c.args.t c.args.self.now.count _ xs _ c.index-self-0.result _ c.min-count.ensures c.remove-first.ensures due in
-    let after = due_after s c.args.t c.args.self.now.count _ xs _ c.index-self-0.result _ c.min-count.ensures c.remove-first.ensures due in
+    let due : s.is_due c.args.t (get_or xs 0 c.index-self-0.result) ≡ true = sym c.if-not-is_due.ensures in
+    let answer = due_answer s c.args.t c.args.self.now.count _ xs _ c.index-self-0.result _ c.min-count.ensures c.remove_first.ensures due in
+    let after = due_after s c.args.t c.args.self.now.count _ xs _ c.index-self-0.result _ c.min-count.ensures c.remove_first.ensures due in
     record { answer = answer; after = after; room = search rules; lent = refl; law = take_law s (by_tick_lawful g.T.Due.tick) c.args.t _ _ _ answer after }

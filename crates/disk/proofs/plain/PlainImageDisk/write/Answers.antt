@@ -4,22 +4,22 @@ use Rattle.disk.specs.Bounds.{count_plain, block_plain}
 use Rattle.disk.proofs.Accesses.{Admitted, admitted, reached, refused}
 use Rattle.disk.proofs.ImageBlocks.{plain_written, plain_outside_kept}
 use Rattle.disk.proofs.plain.PlainImageDisk.write.Goals as goal
-use Rattle.disk.proofs.plain.PlainImageDisk.write.Goals.{In-ok-admit}
+use Rattle.disk.proofs.plain.PlainImageDisk.write.Goals.{In_ok-admit}
 
-pub returns-in-err-admit : goal.returns-in-err-admit
-returns-in-err-admit c =
+pub returns-in_err-admit : goal.returns-in_err-admit
+returns-in_err-admit c =
     let m = plain c.args.self.now.bytes.now in
     let area = c.args.area.now in
-    let r = refused m c.args.number (length area) c.count.ensures refl area c.in-err-admit.field-0.0 c.in-err-admit.ensures in
+    let r = refused m c.args.number (length area) c.count.ensures refl area c.in_err-admit.field-0.0 c.in_err-admit.ensures in
     search rules
 
 -- past the first test the area is one block long, and the block is there
-there : (c : goal.In-ok-admit) → Admitted (plain c.args.self.now.bytes.now) c.args.number (length c.args.area.now)
-there c = admitted (plain c.args.self.now.bytes.now) c.args.number (length c.args.area.now) c.count.ensures refl c.in-ok-admit.ensures
+there : (c : goal.In_ok-admit) → Admitted (plain c.args.self.now.bytes.now) c.args.number (length c.args.area.now)
+there c = admitted (plain c.args.self.now.bytes.now) c.args.number (length c.args.area.now) c.count.ensures refl c.in_ok-admit.ensures
 
-pub write-block-requires : goal.write-block-requires
-write-block-requires c =
-    let a = there (goal.at.write-block-requires c).In-ok-admit in
+pub write_block-requires : goal.write_block-requires
+write_block-requires c =
+    let a = there (goal.at.write_block-requires c).In_ok-admit in
     record { within = omega (arith, a.within, count_plain c.args.self.now.bytes.now); whole = a.whole }
 
 pub returns : goal.returns
@@ -27,7 +27,7 @@ returns c =
     let bytes = c.args.self.now.bytes.now in
     let n = c.args.number in
     let area = c.args.area.now in
-    let a = there (goal.at.returns c).In-ok-admit in
+    let a = there (goal.at.returns c).In_ok-admit in
     let r = reached (plain bytes) n (length area) area (plain_block bytes n) a (block_plain bytes n a.within) in
     let k = plain_written bytes n area a.whole (omega (arith, a.within, count_plain bytes)) in
     let o = plain_outside_kept bytes n area a.whole (omega (arith, a.within, count_plain bytes)) in

@@ -6,54 +6,54 @@ use Rattle.disk.proofs.Accesses.{Admitted, admitted, refused}
 use Rattle.disk.proofs.Retries.{none_spent, next, done, last}
 use Rattle.disk.proofs.retry.RetryDisk.write.Given.{Over}
 use Rattle.disk.proofs.retry.RetryDisk.write.Goals as goal
-use Rattle.disk.proofs.retry.RetryDisk.write.Goals.{In-ok-admit}
+use Rattle.disk.proofs.retry.RetryDisk.write.Goals.{In_ok-admit}
 
-pub returns-in-err-admit : goal.returns-in-err-admit
-returns-in-err-admit g c =
+pub returns-in_err-admit : goal.returns-in_err-admit
+returns-in_err-admit g c =
     let s = c.args.self.now in
     let m = retried (tries_from s.wanted) (g.D.Disk.meaning s.below) in
     let area = c.args.area.now in
-    let r = refused m c.args.number (length area) c.count.ensures c.height.ensures area c.in-err-admit.field-0.0 c.in-err-admit.ensures in
+    let r = refused m c.args.number (length area) c.count.ensures c.height.ensures area c.in_err-admit.field-0.0 c.in_err-admit.ensures in
     search rules
 
 -- past the first test the area is one block long, and the block is there below
-there : (g : Over) (c : goal.In-ok-admit g) → Admitted (g.D.Disk.meaning c.args.self.now.below) c.args.number (length c.args.area.now)
+there : (g : Over) (c : goal.In_ok-admit g) → Admitted (g.D.Disk.meaning c.args.self.now.below) c.args.number (length c.args.area.now)
 there g c =
     let s = c.args.self.now in
     let tries = tries_from s.wanted in
     let m = g.D.Disk.meaning s.below in
-    let a = admitted (retried tries m) c.args.number (length c.args.area.now) c.count.ensures c.height.ensures c.in-ok-admit.ensures in
+    let a = admitted (retried tries m) c.args.number (length c.args.area.now) c.count.ensures c.height.ensures c.in_ok-admit.ensures in
     record { whole = a.whole; within = omega (arith, a.within, count_retried tries m) }
 
 pub loop-again-init : goal.loop-again-init
 loop-again-init g c = (none_spent _ _, refl, refl)
 
-pub returns-then-is-ok : goal.returns-then-is-ok
-returns-then-is-ok g c =
-    let a = there g (goal.at.returns-then-is-ok g c).In-ok-admit in
+pub returns-then-is_ok : goal.returns-then-is_ok
+returns-then-is_ok g c =
+    let a = there g (goal.at.returns-then-is_ok g c).In_ok-admit in
     let s = c.args.self.now in
     let x = g.D.Disk.meaning c.loop-again.self.below in
     let area = c.args.area.now in
-    let ok : is_ok (access_answer x c.args.number (length area)) ≡ true = sym (c.if-is-ok.ensures.value ∙ ap is_ok c.write.ensures.answer) in
-    let r = done (g.D.Disk.meaning s.below) c.args.number (length area) (c.loop-again.-again - 1) area x a c.loop-again.invariant.0 (tries_from s.wanted) (omega arith) ok in
+    let ok : is_ok (access_answer x c.args.number (length area)) ≡ true = sym (c.if-is_ok.ensures.value ∙ ap is_ok c.write.ensures.answer) in
+    let r = done (g.D.Disk.meaning s.below) c.args.number (length area) (c.loop-again._again - 1) area x a c.loop-again.invariant.0 (tries_from s.wanted) (omega arith) ok in
     search rules
 
 pub loop-again-preserved : goal.loop-again-preserved
 loop-again-preserved g c =
-    let a = there g (goal.at.loop-again-preserved g c).In-ok-admit in
+    let a = there g (goal.at.loop-again-preserved g c).In_ok-admit in
     let s = c.args.self.now in
     let x = g.D.Disk.meaning c.loop-again.self.below in
     let area = c.args.area.now in
-    let no : is_ok (access_answer x c.args.number (length area)) ≡ false = sym (c.if-is-ok.ensures.value ∙ ap is_ok c.write.ensures.answer) in
-    let r = next (g.D.Disk.meaning s.below) c.args.number (length area) (c.loop-again.-again - 1) area x a c.loop-again.invariant.0 no in
-    let up : c.loop-again.-again - 1 + 1 ≡ c.loop-again.-again + 1 - 1 = omega arith in
+    let no : is_ok (access_answer x c.args.number (length area)) ≡ false = sym (c.if-is_ok.ensures.value ∙ ap is_ok c.write.ensures.answer) in
+    let r = next (g.D.Disk.meaning s.below) c.args.number (length area) (c.loop-again._again - 1) area x a c.loop-again.invariant.0 no in
+    let up : c.loop-again._again - 1 + 1 ≡ c.loop-again._again + 1 - 1 = omega arith in
     (rw (← up, c.write.ensures.disk) r, c.loop-again.invariant.1, c.write.ensures.outside ∙ c.loop-again.invariant.2)
 
 pub returns : goal.returns
 returns g c =
-    let a = there g (goal.at.returns g c).In-ok-admit in
+    let a = there g (goal.at.returns g c).In_ok-admit in
     let s = c.args.self.now in
     let x = g.D.Disk.meaning c.loop-again.self.below in
     let area = c.args.area.now in
-    let r = last (g.D.Disk.meaning s.below) c.args.number (length area) (c.loop-again.-again - 1) area x a c.loop-again.invariant.0 (tries_from s.wanted) (omega arith) in
+    let r = last (g.D.Disk.meaning s.below) c.args.number (length area) (c.loop-again._again - 1) area x a c.loop-again.invariant.0 (tries_from s.wanted) (omega arith) in
     search rules

@@ -6,7 +6,7 @@ use Rattle.disk.proofs.Accesses.{Admitted, admitted, refused}
 use Rattle.disk.proofs.Spans.{below}
 use Rattle.disk.proofs.span.SpanDisk.read.Given.{Over}
 use Rattle.disk.proofs.span.SpanDisk.read.Goals as goal
-use Rattle.disk.proofs.span.SpanDisk.read.Goals.{In-default}
+use Rattle.disk.proofs.span.SpanDisk.read.Goals.{In_default}
 
 pub returns-in-Err : goal.returns-in-Err
 returns-in-Err g c =
@@ -17,15 +17,15 @@ returns-in-Err g c =
     search rules
 
 -- past the first test the area is one block long, and the block is there
-there : (g : Over) (c : goal.In-default g) → Admitted (spanned c.args.self.now.base c.args.self.now.length (g.D.Disk.meaning c.args.self.now.below)) c.args.number (length c.args.area.now)
+there : (g : Over) (c : goal.In_default g) → Admitted (spanned c.args.self.now.base c.args.self.now.length (g.D.Disk.meaning c.args.self.now.below)) c.args.number (length c.args.area.now)
 there g c =
     let s = c.args.self.now in
-    admitted (spanned s.base s.length (g.D.Disk.meaning s.below)) c.args.number (length c.args.area.now) c.count.ensures c.height.ensures c.in-default.ensures
+    admitted (spanned s.base s.length (g.D.Disk.meaning s.below)) c.args.number (length c.args.area.now) c.count.ensures c.height.ensures c.in_default.ensures
 
-pub overflow-add-self : goal.overflow-add-self
-overflow-add-self g c =
+pub overflow_add-self : goal.overflow_add-self
+overflow_add-self g c =
     let s = c.args.self.now in
-    let a = there g (goal.at.overflow-add-self g c).In-default in
+    let a = there g (goal.at.overflow_add-self g c).In_default in
     let i = inside s.base s.length (g.D.Disk.meaning s.below) c.args.number a.within in
     let few = (g.D.Disk.bounds s.below).few in
     search rules
@@ -35,6 +35,6 @@ returns g c =
     let s = c.args.self.now in
     let m = g.D.Disk.meaning s.below in
     let n = c.args.number in
-    let a = there g (goal.at.returns g c).In-default in
+    let a = there g (goal.at.returns g c).In_default in
     let r = below s.base s.length m n (length c.args.area.now) (block (spanned s.base s.length m) n).bytes (g.D.Disk.outside s.below) a in
     search rules

@@ -5,4 +5,4 @@ use Rattle.format.proofs.buffer.LineBuffer.push_field.Goals as goal
 
 pub returns : goal.returns
 returns c =
-    two (held c.args.self.now) _ _ (number_or_dash c.args.applies c.args.n) (32 ∷ []) c.push-number-or-dash.ensures c.push.ensures
+    two (held c.args.self.now) _ _ (number_or_dash c.args.applies c.args.n) (32 ∷ []) c.push_number_or_dash.ensures c.push.ensures
