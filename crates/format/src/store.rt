@@ -26,10 +26,10 @@ pub fn read_record<D: Disk>(
     resource: usize,
     area: &mut [u8],
 ) -> Result<LeaseRecord, Fault>
-    ensures answer { result ≡ read_answer (meaning disk.old) resource (length area.old) }
-    ensures exact { (x : LeaseRecord) → (result ≡ Ok x → Held (meaning disk.old) resource (length area.old) x) × (Held (meaning disk.old) resource (length area.old) x → result ≡ Ok x) }
-    ensures disk { meaning disk.new ≡ after_read (meaning disk.old) resource (length area.old) }
-    ensures outside { outside disk.new ≡ outside disk.old }
+    ensures answer { result ≡ read_answer (D.Disk.meaning disk.old) resource (length area.old) }
+    ensures exact { (x : LeaseRecord) → (result ≡ Ok x → Held (D.Disk.meaning disk.old) resource (length area.old) x) × (Held (D.Disk.meaning disk.old) resource (length area.old) x → result ≡ Ok x) }
+    ensures disk { D.Disk.meaning disk.new ≡ after_read (D.Disk.meaning disk.old) resource (length area.old) }
+    ensures outside { D.Disk.outside disk.new ≡ D.Disk.outside disk.old }
     ensures area { area.new ≡ replicate (length area.old) 0 }
 {
     let height = disk.height().saturating_add(1);
@@ -41,9 +41,9 @@ pub fn read_record<D: Disk>(
 
 // Writes a record to the block of its resource; the area is all zero afterwards, whatever comes.
 pub fn write_record<D: Disk>(disk: &mut D, lease: LeaseRecord, area: &mut [u8]) -> Result<(), Fault>
-    ensures answer { result ≡ write_answer (meaning disk.old) lease (length area.old) }
-    ensures disk { meaning disk.new ≡ after_record (meaning disk.old) lease (length area.old) }
-    ensures outside { outside disk.new ≡ outside disk.old }
+    ensures answer { result ≡ write_answer (D.Disk.meaning disk.old) lease (length area.old) }
+    ensures disk { D.Disk.meaning disk.new ≡ after_record (D.Disk.meaning disk.old) lease (length area.old) }
+    ensures outside { D.Disk.outside disk.new ≡ D.Disk.outside disk.old }
     ensures area { area.new ≡ replicate (length area.old) 0 }
 {
     let height = disk.height().saturating_add(1);
