@@ -1,5 +1,7 @@
 // Disks that are known by their blocks: images in memory, layers over any disk, the refusals that every part of the
 // lease manager answers with, and the guard that zeroes a lent area.
+#![tactic(auto)]
+
 mod blocks;
 mod device;
 mod fault;

@@ -1,5 +1,7 @@
 // What is written down: the lease record, the block that holds it and records on any disk; ticks, readings and offsets;
 // log entries and their lines.
+#![tactic(auto)]
+
 mod block;
 mod buffer;
 mod clock;

@@ -9,7 +9,7 @@ use Rattle.machine.specs.Room.{Room, World, at_room, with_disk}
 use Rattle.machine.specs.Outcomes.{Outcome, area_test}
 use Rattle.machine.specs.Setup.{formatting, open_call}
 use Rattle.format.specs.Blocks.{founding, block_of}
-use Rattle.machine.specs.View.{view, record_at, record_of, owner}
+use Rattle.machine.specs.View.{view, record_at, record_of}
 use Rattle.machine.specs.Moves.{Move}
 use Rattle.machine.proofs.Clash.{clash}
 use Rattle.machine.proofs.Core.{Known}

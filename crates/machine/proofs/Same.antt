@@ -7,7 +7,6 @@ use Rattle.format.specs.declared.lease.Kind.TheVariants.{Free, Owned}
 use Rattle.format.specs.declared.lease.Mark.{Mark}
 use Rattle.format.specs.declared.lease.LeaseRecord.{LeaseRecord}
 use Rattle.machine.specs.Seats.{same_mark, same_kind, same_record}
-use Rattle.machine.specs.View.{owner}
 use Rattle.machine.proofs.Clash.{clash}
 
 -- comparisons say what they seem to

@@ -10,7 +10,7 @@ use Rattle.format.specs.declared.events.Event.TheVariants as events
 use Rattle.disk.specs.declared.fault.Refusal.TheVariants.{WrongSeat}
 use Rattle.machine.specs.Room.{World, host_at, seat_at, reading}
 use Rattle.machine.specs.Outcomes.{Outcome, log_test, standing, refused}
-use Rattle.machine.specs.Steps.{next_mark, issue_tests, issued, plain_entry}
+use Rattle.machine.specs.Steps.{next_mark, issue_tests, plain_entry}
 use Rattle.machine.specs.Seats.{is_vacant, hold, claim, watched, same_record}
 use Rattle.machine.specs.Holding.{expire_tests, leave_tests, late, renew_call, release_call, watch_call}
 use Rattle.machine.specs.Claiming.{try_tests, still_tests, claim_tests, watching, claiming, tried, try_call}

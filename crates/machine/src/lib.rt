@@ -1,4 +1,6 @@
 // The lease machine: its types, its rules as definitions, and the theorem that every run keeps a room sound.
+#![tactic(auto)]
+
 mod limits;
 mod settings;
 mod soundness;

@@ -1,4 +1,6 @@
 // A queue of entries that fall due, over a lent list.
+#![tactic(auto)]
+
 ghost use Rattle.std.specs.Prelude.{◌≡◌, ℕ, ◌+◌, ◌-◌, ◌<◌, ◌≤◌, [], ◌∷◌, ◌++◌, length, take, drop};
 ghost use Rattle.queue.specs.Schedule.{by_tick};
 ghost use Rattle.queue.specs.Sorted.{placed, Place, push_answer, after_push, take_answer, after_take};

@@ -1,6 +1,8 @@
 // The library at work, a line for each step: on a worn disk the records of four resources are formatted, one is claimed
 // and read back, one access needs its retries, others are refused; log lines are printed and read back; deadlines fall
 // due.
+#![tactic(auto)]
+
 mod history;
 mod show;
 
