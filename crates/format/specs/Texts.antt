@@ -1,6 +1,6 @@
 -- Texts in lent buffers.
 use Rattle.std.specs.Prelude.{◌≡◌, ℕ, ◌<◌, ◌≤◌, Bool, cond, List, [], ◌∷◌, ◌++◌, length, take, drop, replicate, Ok, Err, decimal, Result, ◌≢◌, nat_le, slice_index}
-use Rattle.std.specs.List.{AllByRecursion as All}
+use Rattle.std.specs.List.{AllByRecursion}
 use Rattle.disk.specs.declared.fault.Refusal.{Refusal}
 use Rattle.disk.specs.declared.fault.Refusal.TheVariants.{BadValue, BufferShort}
 use Rattle.format.specs.declared.buffer.LineBuffer.{LineBuffer}
@@ -32,7 +32,7 @@ print_after (Err _) text buffer = replicate (length buffer) 0
 
 -- no byte is a space
 abbrev pub Spaceless : List ℕ → Type 0
-Spaceless text = All (λ b. b ≢ 32) text
+Spaceless text = AllByRecursion (λ b. b ≢ 32) text
 
 -- some digits, at most nine, with no leading zero
 abbrev pub Plain : List ℕ → Type 0

@@ -19,7 +19,7 @@ use Rattle.machine.proofs.Blocks.{answer_is, answer_write_is, area_is, read_long
 use Rattle.machine.specs.Room.{Room, World, no_host, host_at, at_room, with_disk}
 use Rattle.machine.specs.Outcomes.{Outcome, then}
 use Rattle.machine.specs.Steps.{next_mark, judged_by, reading_block, writing_block}
-use Rattle.machine.specs.View.{placed as placed-seat, View, record_by, record_of, view, In, owner, nobody, highest, record_at}
+use Rattle.machine.specs.View.{placed as placed_seat, View, record_by, record_of, view, In, owner, nobody, highest, record_at}
 use Rattle.machine.specs.Soundness.{entries}
 use Rattle.machine.specs.Moves.{Logged, Sent, Still, Untouched, Move}
 use Rattle.machine.proofs.Core.{Core}
@@ -68,7 +68,7 @@ still_of w d opened fs = record { tick = refl; ups = λ h. refl; gens = λ h. re
 pub shut_untouched : (w : World) → Closed w → Untouched (view w)
 unfolding view
 shut_untouched w c = record {
-  seats = λ h r. ap (placed-seat (host_at w.room h).offset) (c.seats h r);
+  seats = λ h r. ap (placed_seat (host_at w.room h).offset) (c.seats h r);
   flights = λ {f} i. none f (subst (In f) c.flights i);
   tops = λ r. ap (λ (n : ℕ). highest 0 (take n w.log) r) c.logged;
   names = λ r. ap (λ (n : ℕ). owner nobody (take n w.log) r) c.logged;

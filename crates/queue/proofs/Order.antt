@@ -1,6 +1,6 @@
 -- The list that a queue keeps hands out in the order of its schedule, the earlier push first.
 use Rattle.std.proofs.Common.{◌≡◌, ℕ, suc, ◌+◌, Bool, true, false, cond, ltb, List, [], ◌∷◌, ◌++◌, length, Some, None, Ok, Err, fold, Option, Result, sym, refl, ap, ◌∙◌, subst, arith}
-use Rattle.std.specs.List.{AllByRecursion as All}
+use Rattle.std.specs.List.{AllByRecursion}
 use Rattle.std.proofs.lemmas.List.{append-nil, append_assoc}
 use Rattle.std.proofs.ByRecursion.{All-append, All-push, All-weaker}
 use Rattle.std.proofs.lemmas.List.Sums.{fold_push}
@@ -68,10 +68,10 @@ module _ {X : Type 0} (s : Schedule X) where
     InFront waiting (x ∷ rest) = (next : List X) × (First s waiting x next × (rest ≡ queue_of s next))
 
     -- an entry that goes in front of the first is earlier than all
-    earlier : (x e : X) (waiting next : List X) → s.no_later x e ≡ false → First s waiting x next → All (λ y. s.no_later y e ≡ false) waiting
+    earlier : (x e : X) (waiting next : List X) → s.no_later x e ≡ false → First s waiting x next → AllByRecursion (λ y. s.no_later y e ≡ false) waiting
     earlier x e waiting next h f =
         let P : X → Type 0 = λ y. s.no_later y e ≡ false in
-        subst (All P) (sym f.waits)
+        subst (AllByRecursion P) (sym f.waits)
         (All-append P f.before (x ∷ f.behind)
         (All-weaker (λ y. s.no_later y x ≡ false) P
         (λ y k. refuted (s.no_later y e) (λ no. both_ways _ k (lawful.transitive y e x no (lawful.total x e h)))) f.before f.later) (
@@ -112,10 +112,10 @@ module _ {X : Type 0} (s : Schedule X) where
     in_front waiting = more [] [] waiting refl refl
 
     -- where the first is not due, none is
-    none_due : (t : ℕ) (x : X) (waiting next : List X) → s.is_due t x ≡ false → First s waiting x next → All (λ y. s.is_due t y ≡ false) waiting
+    none_due : (t : ℕ) (x : X) (waiting next : List X) → s.is_due t x ≡ false → First s waiting x next → AllByRecursion (λ y. s.is_due t y ≡ false) waiting
     none_due t x waiting next h f =
         let P : X → Type 0 = λ y. s.is_due t y ≡ false in
-        subst (All P) (sym f.waits)
+        subst (AllByRecursion P) (sym f.waits)
         (All-append P f.before (x ∷ f.behind)
         (All-weaker (λ y. s.no_later y x ≡ false) P
         (λ y k. refuted (s.is_due t y) (λ due. both_ways _ h (lawful.due_first t x y (lawful.total y x k) due))) f.before f.later) (
@@ -127,7 +127,7 @@ module _ {X : Type 0} (s : Schedule X) where
     by_front : (t : ℕ) (waiting xs : List X) → xs ≡ queue_of s waiting → InFront waiting xs
         → (next : List X) × (TakeOutcome s t waiting (take_answer s t xs) next × (after_take s t xs ≡ queue_of s next))
     unfolding InFront
-    by_front t waiting [] holds none = (waiting, ((subst (All (λ y. s.is_due t y ≡ false)) (sym none) tt, refl), holds))
+    by_front t waiting [] holds none = (waiting, ((subst (AllByRecursion (λ y. s.is_due t y ≡ false)) (sym none) tt, refl), holds))
     by_front t waiting (x ∷ rest) holds (next, (f, rest_is)) = by_due (s.is_due t x) refl
       where
         by_due : (b : Bool) → s.is_due t x ≡ b

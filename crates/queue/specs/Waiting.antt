@@ -1,6 +1,6 @@
 -- What a push and a take do, told by the entries that wait, in the order in which they were pushed.
 use Rattle.std.specs.Prelude.{◌≡◌, ℕ, ◌<◌, ◌≤◌, true, false, List, [], ◌∷◌, ◌++◌, length, Some, None, Ok, Err, fold, Option, Result}
-use Rattle.std.specs.List.{AllByRecursion as All}
+use Rattle.std.specs.List.{AllByRecursion}
 use Rattle.disk.specs.declared.fault.Refusal.{Refusal}
 use Rattle.disk.specs.declared.fault.Refusal.TheVariants.{QueueFull}
 use Rattle.queue.specs.Schedule.{Schedule}
@@ -21,14 +21,14 @@ pub record First {X : Type 0} (s : Schedule X) (waiting : List X) (x : X) (next 
   pub before : List X
   pub behind : List X
   pub waits : waiting ≡ before ++ x ∷ behind
-  pub later : All (λ y. s.no_later y x ≡ false) before
-  pub no_earlier : All (λ y. s.no_later x y ≡ true) behind
+  pub later : AllByRecursion (λ y. s.no_later y x ≡ false) before
+  pub no_earlier : AllByRecursion (λ y. s.no_later x y ≡ true) behind
   pub others : next ≡ before ++ behind
 
 -- a take hands out the first entry if it is due; else none is due, and nothing changes
 abbrev pub TakeOutcome : {X : Type 0} → Schedule X → ℕ → List X → Option X → List X → Type 0
 TakeOutcome s t waiting (Some x) next = (s.is_due t x ≡ true) × First s waiting x next
-TakeOutcome s t waiting None next = All (λ y. s.is_due t y ≡ false) waiting × (next ≡ waiting)
+TakeOutcome s t waiting None next = AllByRecursion (λ y. s.is_due t y ≡ false) waiting × (next ≡ waiting)
 
 -- a push of e that found the list xs, answered r and left the list ys: whatever entries wait
 abbrev pub PushLaw : {X : Type 0} → Schedule X → ℕ → X → List X → Result (Unit {0}) Refusal → List X → Type 0
