@@ -1,5 +1,5 @@
 -- The end of a lease as a tick.
-use Rattle.std.proofs.Common.{◌≡◌, ◌+◌, ◌-◌, ◌^◌, ◌≤◌, min, true, ℤ, pos, negsuc, ◌+ℤ◌, nat_abs, ◌∙◌, arith}
+use Rattle.std.proofs.Common.{◌≡◌, ◌+◌, ◌≤◌, true, ℤ, pos, negsuc, ◌+ℤ◌, nat_abs, arith}
 use native.Mathlib.Nat.{min-eq_left}
 use Rattle.std.proofs.lemmas.Int.{ints}
 use Rattle.std.proofs.lemmas.Bool.{leb-true}

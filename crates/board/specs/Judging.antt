@@ -1,16 +1,16 @@
 -- Calls that read a block, in two parts: what they find before they read, and what they make of the record.
-use Rattle.std.specs.Prelude.{◌≡◌, ℕ, [], ◌∷◌, Ok, Err, Result}
+use Rattle.std.specs.Prelude.{[], ◌∷◌, Ok, Err, Result}
 use Rattle.disk.specs.declared.fault.Refusal.{Refusal}
 use Rattle.format.specs.declared.lease.LeaseRecord.{LeaseRecord}
 use Rattle.machine.specs.declared.types.Checked.{Checked}
 use Rattle.machine.specs.declared.types.Confirmed.{Confirmed}
 use Rattle.machine.specs.Room.{World}
 use Rattle.machine.specs.Outcomes.{Outcome, log_test, unless}
-use Rattle.machine.specs.Seats.{Claim, Renewal}
+use Rattle.machine.specs.Seats.{Claim}
 use Rattle.machine.specs.Claiming.{checked}
-use Rattle.machine.specs.Holding.{confirmed}
 use Rattle.board.specs.declared.turns.ClaimToCheck.{ClaimToCheck}
 use Rattle.board.specs.declared.turns.RenewalToConfirm.{RenewalToConfirm}
+use Rattle.board.specs.Verdicts.{Renewal, confirmed}
 
 -- what a step found, told in other terms
 abbrev pub told : {X Y : Type 0} → (X → Y) → Result X Refusal → Result Y Refusal

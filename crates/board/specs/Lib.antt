@@ -1,4 +1,5 @@
 pub mod Bounds
+pub mod Verdicts
 pub mod Over
 pub mod Judging
 pub mod Flying

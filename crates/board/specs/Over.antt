@@ -1,5 +1,5 @@
 -- A board as a room of the rules.
-use Rattle.std.specs.Prelude.{ℕ, List, [], take}
+use Rattle.std.specs.Prelude.{List, [], take}
 use Rattle.disk.specs.Model.{DiskModel}
 use Rattle.format.specs.declared.events.LogEntry.{LogEntry}
 use Rattle.machine.specs.Room.{Room, World}

@@ -1,10 +1,10 @@
 // Try and check: how a host comes to hold a resource.
 ghost use Rattle.std.specs.Prelude.{◌≡◌, ◌<◌, List, length, IfOk, Ok, OnOk};
 ghost use Rattle.disk.specs.Model.{DiskModel};
-ghost use Rattle.machine.specs.Outcomes.{raised, verdict};
-ghost use Rattle.machine.specs.Claiming.{claim_to_check, claiming, granted, tried as tried_of, try_tests, watching as watching_from};
+ghost use Rattle.machine.specs.Claiming.{claiming, granted, tried as tried_of, try_tests, watching as watching_from};
 ghost use Rattle.board.specs.Judging.{claim_of, judged_claim, passed, told};
 ghost use Rattle.board.specs.Over.{alone, alone_with, over, world_over};
+ghost use Rattle.board.specs.Verdicts.{claim_to_check, raised, verdict};
 
 use crate::board::Board;
 use crate::clock::later;

@@ -2,7 +2,7 @@
 ghost use Rattle.std.specs.Prelude.{◌≡◌};
 ghost use Rattle.machine.specs.Seats.{same_mark, same_record};
 
-use format::{LeaseRecord, LeaseRecordPartialEq, Mark, MarkPartialEq};
+use format::{LeaseRecord, Mark};
 
 pub(crate) fn are_same_marks(a: Mark, b: Mark) -> bool
     ensures { result ≡ same_mark a b }

@@ -2,11 +2,13 @@
 ghost use Rattle.std.specs.Prelude.{◌≡◌, ◌+◌, ◌-◌, ◌<◌, ◌≤◌, length, take, None, MatchOption, nat_lt};
 ghost use Rattle.machine.specs.Seats.{same_mark};
 ghost use Rattle.machine.specs.Setup.{younger};
-ghost use Rattle.machine.specs.Writes.{find, mark_of};
+ghost use Rattle.machine.specs.Writes.{find};
 ghost use Rattle.board.specs.Flying.{Found, without};
+ghost use Rattle.board.specs.Verdicts.{mark_of};
 
+use crate::naming::WriteName;
 use format::{Mark, Tick};
-use machine::{Flight, WriteName};
+use machine::Flight;
 
 // Whether a write has the mark that a name tells.
 fn is_named(mark: Mark, name: WriteName) -> bool

@@ -1,10 +1,10 @@
 // What a holder asks of the room: renew, confirm, release, watch, sign.
 ghost use Rattle.std.specs.Prelude.{◌≡◌, ◌<◌, List, length, IfOk, OnOk};
 ghost use Rattle.disk.specs.Model.{DiskModel};
-ghost use Rattle.machine.specs.Outcomes.{raised};
-ghost use Rattle.machine.specs.Holding.{extended, is_own, release_call, renew_call, renewal_to_confirm, term-to-sign, watch_call};
+ghost use Rattle.machine.specs.Holding.{is_own, release_call, renew_call, watch_call};
 ghost use Rattle.board.specs.Judging.{judged_renewal, renewal_of, told};
 ghost use Rattle.board.specs.Over.{alone, alone_with, over, world_over};
+ghost use Rattle.board.specs.Verdicts.{extended, raised, renewal_to_confirm, term_to_sign};
 
 use crate::board::Board;
 use crate::clock::later;
@@ -182,7 +182,7 @@ impl Board {
 
     // The term that a holder signs with.
     pub fn sign(&self, host: usize, resource: usize) -> Result<u32, Refusal>
-        ensures { result ≡ term-to-sign (alone self.now) host resource }
+        ensures { result ≡ term_to_sign (alone self.now) host resource }
     {
         self.standing(host, resource)?;
         let Seat::Held { term, until, .. } = self.seats[host][resource] else {

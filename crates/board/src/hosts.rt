@@ -2,9 +2,9 @@
 ghost use Rattle.std.specs.Prelude.{◌≡◌, ◌<◌, List, length, OnOk};
 ghost use Rattle.disk.specs.Model.{DiskModel};
 ghost use Rattle.machine.specs.Room.{host_at};
-ghost use Rattle.machine.specs.Outcomes.{raised, verdict};
 ghost use Rattle.machine.specs.Hosts.{crash_call, crash_tests, restart_call, restart_tests};
 ghost use Rattle.board.specs.Over.{alone, alone_with, over, world_over};
+ghost use Rattle.board.specs.Verdicts.{raised, verdict};
 
 use crate::board::Board;
 use disk::Refusal;

@@ -1,17 +1,18 @@
 // The tests by which calls refuse, in the order of the rules.
 ghost use Rattle.std.specs.Prelude.{◌≡◌, ◌<◌, true, [], ◌∷◌, length, OnOk};
 ghost use Rattle.machine.specs.Room.{host_at};
-ghost use Rattle.machine.specs.Outcomes.{area_test, log_test, standing as standing_tests, verdict};
+ghost use Rattle.machine.specs.Outcomes.{area_test, log_test, standing as standing_tests};
 ghost use Rattle.machine.specs.Steps.{issue_tests};
 ghost use Rattle.machine.specs.Claiming.{check_tests, claim_tests, still_tests};
-ghost use Rattle.machine.specs.Holding.{confirm-tests, ended_tests, late, release-tests, renew-tests};
+ghost use Rattle.machine.specs.Holding.{ended_tests};
 ghost use Rattle.board.specs.Bounds.{shown as is_shown};
 ghost use Rattle.board.specs.Over.{alone, alone_with};
+ghost use Rattle.board.specs.Verdicts.{confirm_tests, late, release_tests, renew_tests, verdict};
 
 use crate::board::Board;
 use crate::clock::later;
 use disk::{BLOCK_LENGTH, Refusal};
-use format::{LeaseRecord, LogEntry, Reading, ReadingPartialOrd};
+use format::{LeaseRecord, LogEntry, Reading};
 use machine::Settings;
 
 // The most writes in flight.
@@ -92,7 +93,7 @@ impl Board {
     // A holder can renew.
     pub(crate) fn renewable(&self, host: usize, until: Reading) -> Result<(), Refusal>
         requires { host < 16 }
-        ensures answer { result ≡ verdict (renew-tests (alone self.now) host until.0) }
+        ensures answer { result ≡ verdict (renew_tests (alone self.now) host until.0) }
         ensures spare { OnOk result ((self.now.flying < 32) × ((host_at (alone self.now) host).stamp < 9999)) }
     {
         self.in_time(host, until)?;
@@ -107,7 +108,7 @@ impl Board {
         log: &[LogEntry],
     ) -> Result<(), Refusal>
         requires { host < 16 }
-        ensures answer { result ≡ verdict (release-tests (alone_with self.now log.now) host until.0) }
+        ensures answer { result ≡ verdict (release_tests (alone_with self.now log.now) host until.0) }
         ensures place { OnOk result (self.now.logged < length log.now) }
         ensures spare { OnOk result ((self.now.flying < 32) × ((host_at (alone self.now) host).stamp < 9999)) }
     {
@@ -123,7 +124,7 @@ impl Board {
         log: &[LogEntry],
     ) -> Result<(), Refusal>
         requires { host < 16 }
-        ensures answer { result ≡ verdict (confirm-tests (alone_with self.now log.now) host until.0) }
+        ensures answer { result ≡ verdict (confirm_tests (alone_with self.now log.now) host until.0) }
         ensures place { OnOk result (self.now.logged < length log.now) }
     {
         self.loggable(log)?;

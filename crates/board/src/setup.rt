@@ -3,9 +3,9 @@ ghost use Rattle.std.specs.Prelude.{◌≡◌, ◌<◌, true, List, length, OnOk
 ghost use Rattle.disk.specs.Model.{DiskModel};
 ghost use Rattle.format.specs.declared.events.LogEntry.{LogEntry};
 ghost use Rattle.format.specs.Offsets.{near as is_near};
-ghost use Rattle.machine.specs.Outcomes.{raised, verdict};
-ghost use Rattle.machine.specs.Setup.{clock_tests, now_open, one_tick_on, open_tests, set_clock_call, tick_call, tick_tests};
+ghost use Rattle.machine.specs.Setup.{clock_tests, now_open, one_tick_on, set_clock_call, tick_call, tick_tests};
 ghost use Rattle.board.specs.Over.{alone, over, world_over};
+ghost use Rattle.board.specs.Verdicts.{open_tests, raised, verdict};
 
 use crate::board::Board;
 use crate::flights::keep_young;

@@ -4,16 +4,16 @@ ghost use Rattle.std.specs.Option.{option_map};
 ghost use Rattle.disk.specs.Model.{DiskModel};
 ghost use Rattle.format.specs.declared.events.LogEntry.{LogEntry};
 ghost use Rattle.machine.specs.Room.{with_flights};
-ghost use Rattle.machine.specs.Outcomes.{raised, verdict};
-ghost use Rattle.machine.specs.Writes.{find, lose_call, mark_of, removed, spoil_tests, write_to_land};
+ghost use Rattle.machine.specs.Writes.{find, lose_call, removed, spoil_tests};
 ghost use Rattle.board.specs.Judging.{told};
 ghost use Rattle.board.specs.Over.{alone, over, world_over};
+ghost use Rattle.board.specs.Verdicts.{mark_of, raised, verdict, write_to_land};
 
 use crate::board::Board;
 use crate::flights::{close_gap, place_of};
+use crate::naming::WriteName;
 use disk::{BLOCK_LENGTH, Refusal};
 use format::LeaseRecord;
-use machine::WriteName;
 
 impl Board {
     // The record that is in flight under this name.

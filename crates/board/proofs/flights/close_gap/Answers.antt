@@ -5,5 +5,5 @@ use Rattle.board.proofs.flights.close_gap.Goals as goal
 
 pub returns : goal.returns
 returns c =
-    ap (λ (fs : List Flight). take (c.args.flying - 1) fs) c.copy-within.ensures.after
+    ap (λ (fs : List Flight). take (c.args.flying - 1) fs) c.copy_within.ensures.after
     ∙ closed c.args.flights.now c.args.flying c.args.at c.requires.within c.requires.long

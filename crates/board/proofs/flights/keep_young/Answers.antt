@@ -4,7 +4,7 @@ use Rattle.std.proofs.lemmas.List.{get_or_default}
 use Rattle.board.specs.Flying.{no_flight}
 use Rattle.board.proofs.Youth.{young, younger_kept}
 use Rattle.board.proofs.flights.keep_young.Goals as goal
-use Rattle.board.proofs.flights.keep_young.Goals.{then-not-is-lost, else-not-is-lost}
+use Rattle.board.proofs.flights.keep_young.Goals.{then-not-is_lost, else-not-is_lost}
 
 pub loop-i-preserved : goal.loop-i-preserved
 loop-i-preserved c =
@@ -13,9 +13,9 @@ loop-i-preserved c =
     let lt : i < length fs = omega arith in
     let x = get_or fs i no_flight in
     let here = get_or_default fs i no_flight x lt in
-    elim c.if-not-is-lost.branch [
-      | then-not-is-lost w ↦ rw (w.flights-is, w.young-is) (FiltersInPlace-more_set c.loop-i.invariant lt (ap not (sym w.if-not-is-lost.ensures)) here)
-      | else-not-is-lost w ↦ rw (w.flights-is, w.young-is) (FiltersInPlace-more_no c.loop-i.invariant lt (ap not (sym w.if-not-is-lost.ensures)) here)
+    elim c.if-not-is_lost.branch [
+      | then-not-is_lost w ↦ rw (w.flights-is, w.young-is) (FiltersInPlace-more_set c.loop-i.invariant lt (ap not (sym w.if-not-is_lost.ensures)) here)
+      | else-not-is_lost w ↦ rw (w.flights-is, w.young-is) (FiltersInPlace-more_no c.loop-i.invariant lt (ap not (sym w.if-not-is_lost.ensures)) here)
     ]
 
 pub returns : goal.returns

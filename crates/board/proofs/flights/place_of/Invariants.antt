@@ -1,7 +1,7 @@
 use Rattle.std.proofs.Common.{◌≡◌, ℕ, ◌<◌, false, get_or}
 use Rattle.machine.specs.Seats.{same_mark}
-use Rattle.machine.specs.Writes.{mark_of}
 use Rattle.board.specs.Flying.{no_flight}
+use Rattle.board.specs.Verdicts.{mark_of}
 use Rattle.board.proofs.flights.place_of.Given as goal
 
 abbrev pub invariant-loop-i : goal.invariant-loop-i

@@ -4,5 +4,5 @@ use Rattle.board.proofs.board.Board.grant.Goals as goal
 pub returns : goal.returns
 returns c = record {
   answer = search rules;
-  world = λ d. let p = c.put-seat.ensures.room d in let n = c.note.ensures d in search rules;
+  world = λ d. let p = c.put_seat.ensures.room d in let n = c.note.ensures d in search rules;
 }

@@ -9,6 +9,6 @@ use Rattle.board.proofs.board.Board.in_flight.Goals as goal
 pub returns : goal.returns
 returns c =
     let b = c.args.self.now in
-    let f = c.in-ok-at.ensures in
-    ap {B = Option LeaseRecord} (λ (x : Flight). Some x.body) (sym (get_or-take b.flying b.flights c.in-ok-at.at no_flight f.0))
+    let f = c.in_ok-at.ensures in
+    ap {B = Option LeaseRecord} (λ (x : Flight). Some x.body) (sym (get_or-take b.flying b.flights c.in_ok-at.at no_flight f.0))
     ∙ sym (ap {B = Option LeaseRecord} (option_map (λ (x : Flight). x.body)) f.1.is)

@@ -2,10 +2,10 @@ use Rattle.std.proofs.Common.{rules}
 use Rattle.board.proofs.board.Board.judge_claim.Goals as goal
 
 -- another record stands in the block
-pub returns-then-not-are-same-records : goal.returns-then-not-are-same-records
-returns-then-not-are-same-records c = record {
+pub returns-then-not-are_same_records : goal.returns-then-not-are_same_records
+returns-then-not-are_same_records c = record {
   answer = search rules;
-  world = λ d. let p = c.put-seat.ensures.room d in search rules;
+  world = λ d. let p = c.put_seat.ensures.room d in search rules;
 }
 
 -- the claim stands in the block

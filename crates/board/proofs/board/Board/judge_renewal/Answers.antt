@@ -2,8 +2,8 @@ use Rattle.std.proofs.Common.{rules}
 use Rattle.board.proofs.board.Board.judge_renewal.Goals as goal
 
 -- the renewal stands in the block
-pub returns-then-are-same-marks : goal.returns-then-are-same-marks
-returns-then-are-same-marks c = record {
+pub returns-then-are_same_marks : goal.returns-then-are_same_marks
+returns-then-are_same_marks c = record {
   answer = search rules;
   world = λ d. let e = c.extend.ensures d in search rules;
 }
@@ -12,5 +12,5 @@ returns-then-are-same-marks c = record {
 pub returns : goal.returns
 returns c = record {
   answer = search rules;
-  world = λ d. let p = c.put-seat.ensures.room d in search rules;
+  world = λ d. let p = c.put_seat.ensures.room d in search rules;
 }
