@@ -5,10 +5,11 @@ use Rattle.disk.specs.declared.fault.Refusal.{Refusal}
 use Rattle.disk.specs.Model.{DiskModel}
 use Rattle.format.specs.declared.events.LogEntry.{LogEntry}
 use Rattle.machine.specs.Room.{Room, World}
-use Rattle.machine.specs.Outcomes.{Outcome, proceed, raised, room_fault}
+use Rattle.machine.specs.Outcomes.{Outcome, room_fault}
 use Rattle.machine.proofs.Clash.{clash}
 use Rattle.board.specs.declared.board.Board.{Board}
 use Rattle.board.specs.Over.{world_over}
+use Rattle.board.specs.Verdicts.{proceed, raised}
 use Rattle.room.specs.Rooms.{wiped_if_refused, zeros}
 
 -- a call ends with this answer, in this world

@@ -1,5 +1,5 @@
 -- One step of formatting, and that formatting is what the rules say.
-use Rattle.std.proofs.Common.{◌≡◌, ℕ, zero, suc, ◌+◌, ◌-◌, ◌<◌, ◌≤◌, cond, ltb, List, length, Ok, Err, Result, sym, refl, ap, ◌∙◌, arith}
+use Rattle.std.proofs.Common.{◌≡◌, ℕ, zero, suc, ◌+◌, ◌-◌, ◌<◌, ◌≤◌, cond, ltb, List, length, Ok, Err, Result, refl, ap, ◌∙◌, arith}
 use Rattle.std.proofs.lemmas.Bool.{cond-true, cond-false, le-ltb, lt-ltb}
 use Rattle.disk.specs.declared.fault.Fault.{Fault}
 use Rattle.disk.specs.declared.fault.Refusal.{Refusal}
@@ -7,11 +7,13 @@ use Rattle.disk.specs.declared.fault.Refusal.TheVariants.{NoSuchBlock}
 use Rattle.disk.specs.Model.{DiskModel, access_answer, after_write, count}
 use Rattle.format.specs.Blocks.{block_of, founding}
 use Rattle.machine.specs.Room.{World, at_room, with_disk}
-use Rattle.machine.specs.Outcomes.{Outcome, done, proceed, refused, then, verdict}
+use Rattle.machine.specs.Outcomes.{Outcome, done, refused, then}
 use Rattle.machine.specs.Steps.{written_at}
-use Rattle.machine.specs.Setup.{formatting, now_open, open_call, open_tests}
+use Rattle.machine.specs.Setup.{formatting, now_open, open_call}
 use Rattle.room.specs.Formats.{format_from, formatted, go_on}
 use Rattle.room.proofs.Ends.{same_tests}
+use Rattle.board.specs.Verdicts.{open_tests, proceed, verdict}
+use Rattle.board.proofs.Verdicts.{unless_proceeds}
 
 -- the founding record of r is written next
 module _ (end r : ℕ) (d : DiskModel) (h : r < end) where
@@ -66,7 +68,7 @@ module _ (w : World) (area : List ℕ) (s : Result (Unit {0}) Refusal) (e : s �
 
   pub open_on : open_call w area ≡ proceed w s (λ _. opening)
   unfolding open_call
-  open_on = same_tests w (λ _. opening) s _ e
+  open_on = unless_proceeds w (open_tests w.room area) opening ∙ same_tests w (λ _. opening) s _ e
 
   -- there are too few blocks
   pub too_few : s ≡ Ok tt → count w.room.disk < n → open_call w area ≡ refused w NoSuchBlock (n - 1)

@@ -7,11 +7,12 @@ use Rattle.format.specs.declared.events.LogEntry.{LogEntry}
 use Rattle.format.specs.declared.lease.LeaseRecord.{LeaseRecord}
 use Rattle.format.specs.Stores.{read_answer}
 use Rattle.machine.specs.Room.{World}
-use Rattle.machine.specs.Outcomes.{Outcome, proceed, room_fault}
+use Rattle.machine.specs.Outcomes.{Outcome, room_fault}
 use Rattle.machine.specs.Steps.{judged_by, reading_block}
 use Rattle.machine.proofs.Clash.{clash}
 use Rattle.board.specs.declared.board.Board.{Board}
 use Rattle.board.specs.Over.{over, world_over}
+use Rattle.board.specs.Verdicts.{proceed}
 use Rattle.room.specs.Reading.{disk_after, paired, read_after}
 use Rattle.room.proofs.Ends.{Ends, ends_as, same_over}
 

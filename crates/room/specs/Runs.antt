@@ -4,13 +4,13 @@ use Rattle.disk.specs.Model.{DiskModel}
 use Rattle.format.specs.declared.events.LogEntry.{LogEntry}
 use Rattle.machine.specs.declared.settings.Settings.{Settings}
 use Rattle.machine.specs.Room.{Room, World}
-use Rattle.machine.specs.Writes.{mark_of}
 use Rattle.machine.specs.Calls as rules
 use Rattle.machine.specs.Calls.{after}
 use Rattle.machine.specs.Soundness.{Grants, Rising, Sound, fresh_world}
 use Rattle.room.specs.Rooms.{zeros}
 use Rattle.room.specs.declared.call.Call.{Call}
 use Rattle.room.specs.declared.call.Call.TheVariants as calls
+use Rattle.board.specs.Verdicts.{mark_of}
 
 -- a call, with the area that is passed beside it
 abbrev pub call_of : Call → List ℕ → rules.Call

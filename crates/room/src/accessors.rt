@@ -10,21 +10,21 @@ use format::Tick;
 impl<D: Disk> Room<D> {
     // The tick that it is.
     pub fn current_tick(&self) -> Tick
-        ensures { result.0 ≡ (as_room meaning self.now).tick }
+        ensures { result.0 ≡ (as_room D.Disk.meaning self.now).tick }
     {
         self.board.current_tick()
     }
 
     // How many entries were logged: so many from the front of the log list are the log.
     pub fn logged(&self) -> usize
-        ensures { result ≡ (as_room meaning self.now).logged }
+        ensures { result ≡ (as_room D.Disk.meaning self.now).logged }
     {
         self.board.logged()
     }
 
     // How far the clock of a host is off, if there is such a host.
     pub fn offset(&self, host: usize) -> Option<i32>
-        ensures { result ≡ (if nat_lt host (as_room meaning self.now).settings.hosts then Some (host_at (as_room meaning self.now) host).offset else None) }
+        ensures { result ≡ (if nat_lt host (as_room D.Disk.meaning self.now).settings.hosts then Some (host_at (as_room D.Disk.meaning self.now) host).offset else None) }
     {
         self.board.offset(host)
     }

@@ -1,5 +1,5 @@
 // Calls as data.
-use machine::WriteName;
+use board::WriteName;
 
 // A call of the room with the numbers that it takes. The log list and the area are passed beside it.
 #[derive(Clone, Copy)]

@@ -11,10 +11,10 @@ use machine::{Checked, Tried};
 impl<D: Disk> Room<D> {
     // Claims a resource that is free or whose record has stood still for a lease, and watches it otherwise.
     pub fn try_for(&mut self, host: usize, resource: usize, area: &mut [u8]) -> Result<Tried, Fault>
-        ensures answer { (log : List LogEntry) → result ≡ (try_call (as_world meaning self.old log) host resource area.old).answer }
-        ensures world { (log : List LogEntry) → as_world meaning self.new log ≡ (try_call (as_world meaning self.old log) host resource area.old).world }
+        ensures answer { (log : List LogEntry) → result ≡ (try_call (as_world D.Disk.meaning self.old log) host resource area.old).answer }
+        ensures world { (log : List LogEntry) → as_world D.Disk.meaning self.new log ≡ (try_call (as_world D.Disk.meaning self.old log) host resource area.old).world }
         ensures area { area.new ≡ zeros area.old }
-        ensures outside { outside self.new.disk ≡ outside self.old.disk }
+        ensures outside { D.Disk.outside self.new.disk ≡ D.Disk.outside self.old.disk }
     {
         let tested = self.board.turn_to_try(host, resource, area);
         let (turn, seen) = self.read_after(tested, resource, area)?;
@@ -30,10 +30,10 @@ impl<D: Disk> Room<D> {
         log: &mut [LogEntry],
         area: &mut [u8],
     ) -> Result<Checked, Fault>
-        ensures answer { result ≡ (check_call (as_world meaning self.old log.old) host resource area.old).answer }
-        ensures world { as_world meaning self.new log.new ≡ (check_call (as_world meaning self.old log.old) host resource area.old).world }
+        ensures answer { result ≡ (check_call (as_world D.Disk.meaning self.old log.old) host resource area.old).answer }
+        ensures world { as_world D.Disk.meaning self.new log.new ≡ (check_call (as_world D.Disk.meaning self.old log.old) host resource area.old).world }
         ensures area { area.new ≡ zeros area.old }
-        ensures outside { outside self.new.disk ≡ outside self.old.disk }
+        ensures outside { D.Disk.outside self.new.disk ≡ D.Disk.outside self.old.disk }
     {
         let tested = self.board.claim_to_check(host, resource, log, area);
         let (claim, seen) = self.read_after(tested, resource, area)?;

@@ -11,9 +11,9 @@ use machine::Confirmed;
 impl<D: Disk> Room<D> {
     // Asks for a longer lease: issues the holder's record under a new stamp and answers its mark, which is pending now.
     pub fn renew(&mut self, host: usize, resource: usize) -> Result<Mark, Fault>
-        ensures answer { (log : List LogEntry) → result ≡ (renew_call (as_world meaning self.old log) host resource).answer }
-        ensures world { (log : List LogEntry) → as_world meaning self.new log ≡ (renew_call (as_world meaning self.old log) host resource).world }
-        ensures outside { outside self.new.disk ≡ outside self.old.disk }
+        ensures answer { (log : List LogEntry) → result ≡ (renew_call (as_world D.Disk.meaning self.old log) host resource).answer }
+        ensures world { (log : List LogEntry) → as_world D.Disk.meaning self.new log ≡ (renew_call (as_world D.Disk.meaning self.old log) host resource).world }
+        ensures outside { D.Disk.outside self.new.disk ≡ D.Disk.outside self.old.disk }
     {
         let answer = self.board.renew(host, resource);
         self.raise(answer)
@@ -27,10 +27,10 @@ impl<D: Disk> Room<D> {
         log: &mut [LogEntry],
         area: &mut [u8],
     ) -> Result<Confirmed, Fault>
-        ensures answer { result ≡ (confirm_call (as_world meaning self.old log.old) host resource area.old).answer }
-        ensures world { as_world meaning self.new log.new ≡ (confirm_call (as_world meaning self.old log.old) host resource area.old).world }
+        ensures answer { result ≡ (confirm_call (as_world D.Disk.meaning self.old log.old) host resource area.old).answer }
+        ensures world { as_world D.Disk.meaning self.new log.new ≡ (confirm_call (as_world D.Disk.meaning self.old log.old) host resource area.old).world }
         ensures area { area.new ≡ zeros area.old }
-        ensures outside { outside self.new.disk ≡ outside self.old.disk }
+        ensures outside { D.Disk.outside self.new.disk ≡ D.Disk.outside self.old.disk }
     {
         let tested = self.board.renewal_to_confirm(host, resource, log, area);
         let (renewal, seen) = self.read_after(tested, resource, area)?;
@@ -45,9 +45,9 @@ impl<D: Disk> Room<D> {
         resource: usize,
         log: &mut [LogEntry],
     ) -> Result<Mark, Fault>
-        ensures answer { result ≡ (release_call (as_world meaning self.old log.old) host resource).answer }
-        ensures world { as_world meaning self.new log.new ≡ (release_call (as_world meaning self.old log.old) host resource).world }
-        ensures outside { outside self.new.disk ≡ outside self.old.disk }
+        ensures answer { result ≡ (release_call (as_world D.Disk.meaning self.old log.old) host resource).answer }
+        ensures world { as_world D.Disk.meaning self.new log.new ≡ (release_call (as_world D.Disk.meaning self.old log.old) host resource).world }
+        ensures outside { D.Disk.outside self.new.disk ≡ D.Disk.outside self.old.disk }
     {
         let answer = self.board.release(host, resource, log);
         self.raise(answer)
@@ -55,9 +55,9 @@ impl<D: Disk> Room<D> {
 
     // Leaves a seat whose lease or claim has run out.
     pub fn watch(&mut self, host: usize, resource: usize, log: &mut [LogEntry]) -> Result<(), Fault>
-        ensures answer { result ≡ (watch_call (as_world meaning self.old log.old) host resource).answer }
-        ensures world { as_world meaning self.new log.new ≡ (watch_call (as_world meaning self.old log.old) host resource).world }
-        ensures outside { outside self.new.disk ≡ outside self.old.disk }
+        ensures answer { result ≡ (watch_call (as_world D.Disk.meaning self.old log.old) host resource).answer }
+        ensures world { as_world D.Disk.meaning self.new log.new ≡ (watch_call (as_world D.Disk.meaning self.old log.old) host resource).world }
+        ensures outside { D.Disk.outside self.new.disk ≡ D.Disk.outside self.old.disk }
     {
         let answer = self.board.watch(host, resource, log);
         self.raise(answer)
@@ -65,7 +65,7 @@ impl<D: Disk> Room<D> {
 
     // The term that a holder signs with. It changes nothing.
     pub fn sign(&self, host: usize, resource: usize) -> Result<u32, Fault>
-        ensures { result ≡ sign_call (as_room meaning self.now) host resource }
+        ensures { result ≡ sign_call (as_room D.Disk.meaning self.now) host resource }
     {
         let answer = self.board.sign(host, resource);
         self.raise(answer)

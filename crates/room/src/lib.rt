@@ -1,4 +1,6 @@
 // A lease room over any disk: every call of the rules, with its disk inside.
+#![tactic(auto)]
+
 mod accessors;
 mod answers;
 mod call;

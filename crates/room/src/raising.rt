@@ -1,7 +1,7 @@
 // How a room refuses: the cause that its board gives, with the room's height.
 ghost use Rattle.std.specs.Prelude.{◌≡◌};
-ghost use Rattle.machine.specs.Outcomes.{raised};
 ghost use Rattle.room.specs.Rooms.{as_room, wiped_if_refused};
+ghost use Rattle.board.specs.Verdicts.{raised};
 
 use crate::room::Room;
 use disk::{Disk, Fault, Refusal};
@@ -9,7 +9,7 @@ use disk::{Disk, Fault, Refusal};
 impl<D: Disk> Room<D> {
     // An answer of the board; a cause becomes a fault of the room, one higher than its disk.
     pub(crate) fn raise<T>(&self, answer: Result<T, Refusal>) -> Result<T, Fault>
-        ensures { result ≡ raised (as_room meaning self.now) answer }
+        ensures { result ≡ raised (as_room D.Disk.meaning self.now) answer }
     {
         match answer {
             Ok(found) => Ok(found),
@@ -23,7 +23,7 @@ impl<D: Disk> Room<D> {
 
     // The same before the disk is touched: a refusal zeroes the area.
     pub(crate) fn admit<T>(&self, answer: Result<T, Refusal>, area: &mut [u8]) -> Result<T, Fault>
-        ensures answer { result ≡ raised (as_room meaning self.now) answer }
+        ensures answer { result ≡ raised (as_room D.Disk.meaning self.now) answer }
         ensures area { area.new ≡ wiped_if_refused answer area.old }
     {
         if answer.is_err() {

@@ -15,11 +15,11 @@ impl<D: Disk> Room<D> {
         resource: usize,
         area: &mut [u8],
     ) -> Result<(T, LeaseRecord), Fault>
-        ensures answer { result ≡ read_after (as_room meaning self.old) tested resource (length area.old) }
-        ensures disk { meaning self.new.disk ≡ disk_after (meaning self.old.disk) tested resource (length area.old) }
+        ensures answer { result ≡ read_after (as_room D.Disk.meaning self.old) tested resource (length area.old) }
+        ensures disk { D.Disk.meaning self.new.disk ≡ disk_after (D.Disk.meaning self.old.disk) tested resource (length area.old) }
         ensures board { self.new.board ≡ self.old.board }
         ensures area { area.new ≡ zeros area.old }
-        ensures outside { outside self.new.disk ≡ outside self.old.disk }
+        ensures outside { D.Disk.outside self.new.disk ≡ D.Disk.outside self.old.disk }
     {
         let found = self.admit(tested, area)?;
         let seen = read_record(&mut self.disk, resource, area)?;

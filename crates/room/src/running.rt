@@ -14,9 +14,9 @@ use machine::Answer;
 impl<D: Disk> Room<D> {
     // Makes a call.
     fn make(&mut self, call: Call, log: &mut [LogEntry], area: &mut [u8]) -> Result<Answer, Fault>
-        ensures answer { result ≡ (performed_by (call_of call area.old) (as_world meaning self.old log.old)).answer }
-        ensures world { as_world meaning self.new log.new ≡ (performed_by (call_of call area.old) (as_world meaning self.old log.old)).world }
-        ensures outside { outside self.new.disk ≡ outside self.old.disk }
+        ensures answer { result ≡ (performed_by (call_of call area.old) (as_world D.Disk.meaning self.old log.old)).answer }
+        ensures world { as_world D.Disk.meaning self.new log.new ≡ (performed_by (call_of call area.old) (as_world D.Disk.meaning self.old log.old)).world }
+        ensures outside { D.Disk.outside self.new.disk ≡ D.Disk.outside self.old.disk }
     {
         match call {
             Call::SetClock { host, offset } => from_done(self.set_clock(host, offset)),
@@ -45,11 +45,11 @@ impl<D: Disk> Room<D> {
         log: &mut [LogEntry],
         area: &mut [u8],
     ) -> Result<Answer, Fault>
-        ensures answer { result ≡ (performed_by (call_of call area.old) (as_world meaning self.old log.old)).answer }
-        ensures world { as_world meaning self.new log.new ≡ (performed_by (call_of call area.old) (as_world meaning self.old log.old)).world }
+        ensures answer { result ≡ (performed_by (call_of call area.old) (as_world D.Disk.meaning self.old log.old)).answer }
+        ensures world { as_world D.Disk.meaning self.new log.new ≡ (performed_by (call_of call area.old) (as_world D.Disk.meaning self.old log.old)).world }
         ensures area { area.new ≡ zeros area.old }
-        ensures outside { outside self.new.disk ≡ outside self.old.disk }
-        ensures sound { StaysSoundBy (call_of call area.old) (as_world meaning self.old log.old) (as_world meaning self.new log.new) }
+        ensures outside { D.Disk.outside self.new.disk ≡ D.Disk.outside self.old.disk }
+        ensures sound { StaysSoundBy (call_of call area.old) (as_world D.Disk.meaning self.old log.old) (as_world D.Disk.meaning self.new log.new) }
     {
         let answer = self.make(call, log, area);
         area.fill(0);

@@ -17,9 +17,9 @@ use machine::Settings;
 fn format_blocks<D: Disk>(disk: &mut D, resources: usize, area: &mut [u8]) -> Result<(), Fault>
     requires whole { length area.old ≡ 512 }
     requires few { resources ≤ 8 }
-    ensures answer { result ≡ (formatted resources (meaning disk.old)).answer }
-    ensures disk { meaning disk.new ≡ (formatted resources (meaning disk.old)).disk }
-    ensures outside { outside disk.new ≡ outside disk.old }
+    ensures answer { result ≡ (formatted resources (D.Disk.meaning disk.old)).answer }
+    ensures disk { D.Disk.meaning disk.new ≡ (formatted resources (D.Disk.meaning disk.old)).disk }
+    ensures outside { D.Disk.outside disk.new ≡ D.Disk.outside disk.old }
 {
     for resource in 0..resources {
         write_record(disk, LeaseRecord::founding(resource as u8), area)?;
@@ -31,9 +31,9 @@ impl<D: Disk> Room<D> {
     // A room as it is founded, above any disk: closed, at tick 0, with nothing in flight or logged. Whatever calls are
     // made of it from here on, it stays sound.
     pub fn found(settings: Settings, disk: D) -> Room<D>
-        ensures room { as_room meaning result ≡ founded settings (meaning disk) }
-        ensures outside { outside result.disk ≡ outside disk }
-        ensures sound { SoundFrom (as_room meaning result) }
+        ensures room { as_room D.Disk.meaning result ≡ founded settings (D.Disk.meaning disk) }
+        ensures outside { D.Disk.outside result.disk ≡ D.Disk.outside disk }
+        ensures sound { SoundFrom (as_room D.Disk.meaning result) }
     {
         Room {
             disk,
@@ -43,9 +43,9 @@ impl<D: Disk> Room<D> {
 
     // Sets the clock of a host, before the room is opened.
     pub fn set_clock(&mut self, host: usize, offset: i32) -> Result<(), Fault>
-        ensures answer { (log : List LogEntry) → result ≡ (set_clock_call (as_world meaning self.old log) host offset).answer }
-        ensures world { (log : List LogEntry) → as_world meaning self.new log ≡ (set_clock_call (as_world meaning self.old log) host offset).world }
-        ensures outside { outside self.new.disk ≡ outside self.old.disk }
+        ensures answer { (log : List LogEntry) → result ≡ (set_clock_call (as_world D.Disk.meaning self.old log) host offset).answer }
+        ensures world { (log : List LogEntry) → as_world D.Disk.meaning self.new log ≡ (set_clock_call (as_world D.Disk.meaning self.old log) host offset).world }
+        ensures outside { D.Disk.outside self.new.disk ≡ D.Disk.outside self.old.disk }
     {
         let answer = self.board.set_clock(host, offset);
         self.raise(answer)
@@ -53,10 +53,10 @@ impl<D: Disk> Room<D> {
 
     // Formats the blocks of all resources, and opens the room.
     pub fn open(&mut self, area: &mut [u8]) -> Result<(), Fault>
-        ensures answer { (log : List LogEntry) → result ≡ (open_call (as_world meaning self.old log) area.old).answer }
-        ensures world { (log : List LogEntry) → as_world meaning self.new log ≡ (open_call (as_world meaning self.old log) area.old).world }
+        ensures answer { (log : List LogEntry) → result ≡ (open_call (as_world D.Disk.meaning self.old log) area.old).answer }
+        ensures world { (log : List LogEntry) → as_world D.Disk.meaning self.new log ≡ (open_call (as_world D.Disk.meaning self.old log) area.old).world }
         ensures area { area.new ≡ zeros area.old }
-        ensures outside { outside self.new.disk ≡ outside self.old.disk }
+        ensures outside { D.Disk.outside self.new.disk ≡ D.Disk.outside self.old.disk }
     {
         let tested = self.board.openable(area);
         self.admit(tested, area)?;
@@ -78,9 +78,9 @@ impl<D: Disk> Room<D> {
 
     // A millisecond passes, and the writes that are too old are lost.
     pub fn tick(&mut self) -> Result<(), Fault>
-        ensures answer { (log : List LogEntry) → result ≡ (tick_call (as_world meaning self.old log)).answer }
-        ensures world { (log : List LogEntry) → as_world meaning self.new log ≡ (tick_call (as_world meaning self.old log)).world }
-        ensures outside { outside self.new.disk ≡ outside self.old.disk }
+        ensures answer { (log : List LogEntry) → result ≡ (tick_call (as_world D.Disk.meaning self.old log)).answer }
+        ensures world { (log : List LogEntry) → as_world D.Disk.meaning self.new log ≡ (tick_call (as_world D.Disk.meaning self.old log)).world }
+        ensures outside { D.Disk.outside self.new.disk ≡ D.Disk.outside self.old.disk }
     {
         let answer = self.board.tick();
         self.raise(answer)

@@ -21,11 +21,11 @@ pub fn sound_run<D: Disk>(
     log: &mut [LogEntry],
     area: &mut [u8],
 ) -> Room<D>
-    ensures world { as_world meaning result log.new ≡ after (fresh_world settings (meaning disk) log.old) (calls_of calls.now area.old) }
-    ensures sound { Sound (as_world meaning result log.new) }
-    ensures rising { Rising (fresh_world settings (meaning disk) log.old) }
+    ensures world { as_world D.Disk.meaning result log.new ≡ after (fresh_world settings (D.Disk.meaning disk) log.old) (calls_of calls.now area.old) }
+    ensures sound { Sound (as_world D.Disk.meaning result log.new) }
+    ensures rising { Rising (fresh_world settings (D.Disk.meaning disk) log.old) }
     ensures area { area.new ≡ zeros area.old }
-    ensures outside { outside result.disk ≡ outside disk }
+    ensures outside { D.Disk.outside result.disk ≡ D.Disk.outside disk }
 {
     let mut room = Room::found(settings, disk);
     for call in calls {

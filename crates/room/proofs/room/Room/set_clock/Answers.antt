@@ -8,7 +8,7 @@ pub returns : goal.returns
 returns g c =
     let d = g.D.Disk.meaning c.args.self.now.disk in
     let b = c.args.self.now.board in
-    let told = c.set-clock-answer.ensures in
+    let told = c.set_clock-answer.ensures in
     let same = to_z-of_z w32 c.args.offset c.ranges.offset in
     record {
       answer = λ log. c.raise.ensures ∙ told.answer d log ∙ ap (λ (z : ℤ). (set_clock_call (world_over d b log) c.args.host z).answer) same;

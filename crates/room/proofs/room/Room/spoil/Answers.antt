@@ -1,26 +1,27 @@
-use Rattle.std.proofs.Common.{◌≡◌, ℕ, List, length, replicate, Err, Result, sym, refl, ap, ◌∙◌, rules}
+use Rattle.std.proofs.Common.{◌≡◌, ℕ, List, length, replicate, Err, Result, refl, ap, ◌∙◌, rules}
 use Rattle.std.proofs.lemmas.Result.{err_from_is_err_and, IfOk-at_ok}
 use Rattle.disk.specs.declared.fault.Refusal.{Refusal}
 use Rattle.disk.specs.Model.{DiskModel, access_answer, after_write, block_length}
 use Rattle.format.specs.declared.events.LogEntry.{LogEntry}
-use Rattle.machine.specs.Outcomes.{Outcome, done, proceed}
+use Rattle.machine.specs.Outcomes.{done}
 use Rattle.machine.specs.Steps.{writing_block, written_at}
 use Rattle.machine.specs.Writes.{spoil_call, spoiled_block}
 use Rattle.board.specs.Over.{over, world_over}
+use Rattle.board.specs.Verdicts.{proceed}
 use Rattle.room.specs.Rooms.{as_room, as_world, zeros}
-use Rattle.room.proofs.Ends.{Ends, ends_as, passed_by, refused_by, unwiped, wiped}
+use Rattle.room.proofs.Ends.{ends_as, passed_by, refused_by, unwiped, wiped}
 use Rattle.room.proofs.WriteSteps.{by_answer, done_as}
 use Rattle.room.proofs.WriteCalls.{spoil_on}
 use Rattle.room.proofs.room.Room.spoil.Goals as goal
 
 -- refused before the write
-pub returns-in-err-admit : goal.returns-in-err-admit
-returns-in-err-admit g c =
+pub returns-in_err-admit : goal.returns-in_err-admit
+returns-in_err-admit g c =
     let m = as_room g.D.Disk.meaning c.args.self.now in
     let s = c.spoilable-tested.result in
-    let f = c.in-err-admit.field-0.0 in
-    let q = c.in-err-admit.ensures.answer in
-    let p = err_from_is_err_and c.from-residual.result c.from-residual.ensures.1 in
+    let f = c.in_err-admit.field-0.0 in
+    let q = c.in_err-admit.ensures.answer in
+    let p = err_from_is_err_and c.from_residual.result c.from_residual.ensures.1 in
     let ends = λ (log : List LogEntry). let w = as_world g.D.Disk.meaning c.args.self.now log in
     refused_by (spoil_call w c.args.resource c.args.area.now) w _ s (spoil_on w c.args.resource c.args.area.now s c.spoilable-tested.ensures.answer) f q in
     record {
@@ -38,8 +39,8 @@ returns g c =
     let r = c.args.resource in
     let area = c.args.area.now in
     let s = c.spoilable-tested.result in
-    let found = passed_by (over d b) s c.in-ok-admit.field-0 c.in-ok-admit.ensures.answer in
-    let area_is = c.admit.ensures.area ∙ unwiped s area c.in-ok-admit.field-0 found in
+    let found = passed_by (over d b) s c.in_ok-admit.field-0 c.in_ok-admit.ensures.answer in
+    let area_is = c.admit.ensures.area ∙ unwiped s area c.in_ok-admit.field-0 found in
     let long : length c.admit.new.area ≡ block_length = ap length area_is ∙ IfOk-at_ok (λ _. length area ≡ block_length) found c.spoilable-tested.ensures.long in
     let filled : c.fill.new.self ≡ replicate (length c.admit.new.area) 255 = search rules in
     let bytes : c.fill.new.self ≡ spoiled_block = filled ∙ ap (λ (n : ℕ). replicate n 255) long in
