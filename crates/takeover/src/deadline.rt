@@ -3,7 +3,7 @@ ghost use Rattle.std.specs.Prelude.{◌≡◌};
 
 use queue::Due;
 
-// The lease of a host for the one resource of the tour, which runs out at a tick.
+// The lease of a host for the one resource of the takeover, which runs out at a tick.
 #[derive(Clone, Copy)]
 pub(crate) struct Deadline {
     pub(crate) tick: u32,

@@ -1,16 +1,19 @@
 // A takeover, a line for each step: host 0, whose clock is a quarter of a second fast, claims a resource, is granted the
 // lease, signs and asks for more time, but its writes do not come through; once a lease has passed, host 1 takes over, and
 // what host 0 still has on its way changes nothing.
+#![tactic(auto)]
+
 ghost use Rattle.std.specs.Prelude.{◌≡◌};
 
 mod deadline;
 mod show;
 mod step;
 
+use board::WriteName;
 use deadline::Deadline;
 use disk::{BLOCK_LENGTH, Disk, Retry, Span, Tally, TiredImage};
 use format::{Event, LogEntry, Tick};
-use machine::{Settings, WriteName};
+use machine::Settings;
 use queue::Queue;
 use room::{Call, Room};
 use show::show_log;

@@ -1,4 +1,4 @@
-// The lines that the tour prints.
+// The lines that the takeover prints.
 use disk::{Disk, Fault};
 use format::LogEntry;
 use machine::Answer;

@@ -1,4 +1,4 @@
-// The steps of the tour: calls of the room, each told in a line.
+// The steps of the takeover: calls of the room, each told in a line.
 use crate::deadline::Deadline;
 use crate::show::{show_answer, show_fault};
 use disk::{BLOCK_LENGTH, Disk};
@@ -8,7 +8,7 @@ use queue::Queue;
 use room::{Call, Room};
 use std::io;
 
-// The one resource of the tour.
+// The one resource of the takeover.
 pub(crate) const RESOURCE: usize = 0;
 
 // A room with the list that its log lies in.

@@ -1,6 +1,6 @@
 use Rattle.std.proofs.Common.{length}
 use Rattle.queue.specs.Holdings.{entries}
-use Rattle.tour.proofs.step.Stage.end_leases.Given as goal
+use Rattle.takeover.proofs.step.Stage.end_leases.Given as goal
 
 -- each turn takes a deadline out of the queue
 abbrev pub decreases-loop-deadline : goal.decreases-loop-deadline
