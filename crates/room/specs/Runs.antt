@@ -40,7 +40,7 @@ SoundFrom m = (log : List LogEntry) → ((cs : List rules.Call) → Sound (after
 
 -- the world w is that of a run from start, of these calls and one more: it is sound, as the one before was, and what the
 -- last call grants is above all that was granted before
-pub record Goes_on (start : World) (cs : List rules.Call) (last : rules.Call) (w : World) : Type 0 where
+pub record GoesOn (start : World) (cs : List rules.Call) (last : rules.Call) (w : World) : Type 0 where
   pub run : w ≡ after start (cs ++ (last ∷ []))
   pub before : Sound (after start cs)
   pub sound : Sound w
@@ -49,4 +49,4 @@ pub record Goes_on (start : World) (cs : List rules.Call) (last : rules.Call) (w
 -- one more call: if v is what any calls have made of any newly founded room, then w is what these and the last one make of it
 abbrev pub StaysSoundBy : rules.Call → World → World → Type 0
 StaysSoundBy last v w =
-    (s : Settings) (d : DiskModel) (log : List LogEntry) (cs : List rules.Call) → v ≡ after (fresh_world s d log) cs → Goes_on (fresh_world s d log) cs last w
+    (s : Settings) (d : DiskModel) (log : List LogEntry) (cs : List rules.Call) → v ≡ after (fresh_world s d log) cs → GoesOn (fresh_world s d log) cs last w
