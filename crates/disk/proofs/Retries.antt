@@ -56,7 +56,7 @@ none_spent m n =
       bad = λ p. omega arith;
     }
 
--- the access-answer of a call tells whether the block fails
+-- the access answer of a call tells whether the block fails
 failed_by : (b : Block) (r : Result (Unit {0}) Fault) (t : Bool) → r ≡ cond t (Err (failure b)) (Ok tt) → is_ok r ≡ false → t ≡ true
 failed_by b r true e i = refl
 failed_by b r false e i = absurd (both_ways (is_ok r) i (ap is_ok e))
@@ -94,7 +94,7 @@ module _ (m : DiskModel) (n : ℕ) (h : n < count m) where
   with_retried : (tries : ℕ) (y : Block) → with_block (retried tries m) n (retried_block tries y) ≡ retried tries (with_block m n y)
   with_retried tries y = ap (λ l. record { height = (retried tries m).height; blocks = l }) (sym (map-set (retried_block tries) m.blocks n y))
 
-  -- the last call that is made below gives the layer's access-answer and leaves what the layer leaves
+  -- the last call that is made below gives the layer's access answer and leaves what the layer leaves
   record Level (tries k : ℕ) (bytes : List ℕ) : Type 0 where
     pub fails_is : fails (retried_block tries (block m n)) ≡ fails (spent (block m n) k)
     pub block_is : cond (fails (retried_block tries (block m n))) (after_failure (retried_block tries (block m n))) (after_success (retried_block tries (block m n)) bytes) ≡ retried_block tries (cond (fails (spent (block m n) k)) (after_failure (spent (block m n) k)) (after_success (spent (block m n) k) bytes))

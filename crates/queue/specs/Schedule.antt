@@ -1,7 +1,7 @@
 -- When entries are handed out, and in which order.
 use Rattle.std.specs.Prelude.{ℕ, Bool, nat_le}
 
--- `no-later x y`: x comes no later than y in the order of handing out; `is-due t x`: x may be handed out at tick t
+-- `no_later x y`: x comes no later than y in the order of handing out; `is_due t x`: x may be handed out at tick t
 pub record Schedule (X : Type 0) : Type 0 where
   pub no_later : X → X → Bool
   pub is_due : ℕ → X → Bool
