@@ -59,4 +59,15 @@ impl Refusal {
     {
         self as u8
     }
+
+    // This cause, with where it arose.
+    pub fn at(self, number: usize, height: u8) -> Fault
+        ensures { result ≡ record { cause = self; number = number; height = height } }
+    {
+        Fault {
+            cause: self,
+            number,
+            height,
+        }
+    }
 }

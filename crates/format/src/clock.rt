@@ -3,7 +3,7 @@ ghost use Rattle.std.specs.Prelude.{◌≡◌};
 ghost use Rattle.format.specs.Times.{reading_at, tick_at, ClockLaws};
 
 // A tick of the room's own time, a millisecond.
-#[derive(Clone, Copy, PartialEq, Eq, PartialOrd, Ord, Debug)]
+#[derive(Clone, Copy, PartialEq, Eq, PartialOrd, Ord, Debug, Default)]
 pub struct Tick(pub u32);
 
 // What a host's clock reads at some tick: the tick less the host's offset. A reading belongs to its host and is

@@ -1,14 +1,15 @@
 // The lease record: who owns a resource, or that nobody does.
 
 // Whether the resource is free or owned.
-#[derive(Clone, Copy, PartialEq, Eq, Debug)]
+#[derive(Clone, Copy, PartialEq, Eq, Debug, Default)]
 pub enum Kind {
+    #[default]
     Free = 0,
     Owned = 1,
 }
 
 // A mark names one write: the host that issued it, in which of its generations, and with which stamp.
-#[derive(Clone, Copy, PartialEq, Eq, Debug)]
+#[derive(Clone, Copy, PartialEq, Eq, Debug, Default)]
 pub struct Mark {
     pub owner: u8,
     pub generation: u16,
@@ -16,7 +17,7 @@ pub struct Mark {
 }
 
 // What a resource's block says. The fields may hold any numbers; `is_valid` says whether they make a record.
-#[derive(Clone, Copy, PartialEq, Eq, Debug)]
+#[derive(Clone, Copy, PartialEq, Eq, Debug, Default)]
 pub struct LeaseRecord {
     pub kind: Kind,
     pub resource: u8,

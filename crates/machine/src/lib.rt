@@ -4,6 +4,7 @@
 mod limits;
 mod settings;
 mod soundness;
+mod told;
 mod types;
 
 pub use settings::Settings;

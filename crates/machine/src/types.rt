@@ -2,14 +2,14 @@
 use format::{LeaseRecord, Mark, Reading, Tick};
 
 // A renewal that was issued and is not confirmed yet.
-#[derive(Clone, Copy)]
+#[derive(Clone, Copy, PartialEq, Eq, Debug)]
 pub struct Pending {
     pub mark: Mark,
     pub issued: Reading,
 }
 
 // A seat is where a host stands with one resource. Its times are readings of the host's own clock.
-#[derive(Clone, Copy)]
+#[derive(Clone, Copy, PartialEq, Eq, Debug)]
 pub enum Seat {
     Idle,
     // the host watches an owned record, to see whether it stands still for a lease
@@ -32,7 +32,7 @@ pub enum Seat {
 }
 
 // A host: how far its clock is off, whether it is up, how often it has started, and the last stamp that it has used.
-#[derive(Clone, Copy)]
+#[derive(Clone, Copy, PartialEq, Eq, Debug)]
 pub struct Host {
     pub offset: i32,
     pub up: bool,
@@ -41,35 +41,35 @@ pub struct Host {
 }
 
 // A write in flight: issued, and neither landed nor lost yet.
-#[derive(Clone, Copy)]
+#[derive(Clone, Copy, PartialEq, Eq, Debug, Default)]
 pub struct Flight {
     pub body: LeaseRecord,
     pub issued: Tick,
 }
 
 // What a try answers.
-#[derive(Clone, Copy)]
+#[derive(Clone, Copy, PartialEq, Eq, Debug)]
 pub enum Tried {
     Watching,
     Claimed(Mark),
 }
 
 // What a check answers: the lease with its term, until a reading of the host's clock, or that the claim was overwritten.
-#[derive(Clone, Copy)]
+#[derive(Clone, Copy, PartialEq, Eq, Debug)]
 pub enum Checked {
     Granted { term: u32, until: Reading },
     Stolen,
 }
 
 // What a confirm answers.
-#[derive(Clone, Copy)]
+#[derive(Clone, Copy, PartialEq, Eq, Debug)]
 pub enum Confirmed {
     Renewed,
     Stolen,
 }
 
 // What any call answers.
-#[derive(Clone, Copy)]
+#[derive(Clone, Copy, PartialEq, Eq, Debug)]
 pub enum Answer {
     Done,
     Issued(Mark),
