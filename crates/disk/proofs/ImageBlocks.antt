@@ -1,10 +1,12 @@
 -- The blocks that lie in a run of bytes, and what a write to one leaves.
-use Rattle.std.proofs.Common.{◌≡◌, ℕ, ◌+◌, ◌-◌, ◌*◌, ◌/◌, ◌<◌, ◌≤◌, min, List, [], ◌++◌, map, length, get_or, take, drop, set, sym, refl, ap, ◌∙◌, ⊎_elim, arith, length-append, length-drop, length-set, length-take, get_or-set_other, get_or-set_same}
+use Rattle.std.proofs.Common.{◌≡◌, ℕ, ◌+◌, ◌-◌, ◌*◌, ◌/◌, ◌%◌, ◌<◌, ◌≤◌, min, List, [], ◌++◌, map, length, get_or, take, drop, set, sym, refl, ap, ◌∙◌, ⊎_elim, arith, length-append, length-drop, length-set, length-take, get_or-set_other, get_or-set_same}
 use Rattle.std.specs.List.{range_with_len}
 use Rattle.std.proofs.lemmas.List.FromFn.{length-map-range_with_len, get_or-map-range_with_len}
 use Rattle.std.proofs.lemmas.List.{same_lists, get_or-take, get_or-drop, get_or_append_left, get_or-append_right, take_at, drop_at}
+use Rattle.std.proofs.lemmas.Nat.{div-add-mod'}
 use Rattle.std.proofs.lemmas.Bool.{cases_eq, cases_lt}
-use Rattle.disk.specs.Model.{Block, with_block, after_success}
+use Rattle.disk.specs.Model.{Block, count, block, with_block, after_success}
+use Rattle.disk.specs.Bounds.{count_plain, block_plain}
 use Rattle.disk.specs.Images.{block_bytes, overwritten, plain, plain_block, plain_outside, whole_blocks}
 
 -- a list by its indices, changed at one
@@ -62,7 +64,7 @@ module _ (bytes : List ℕ) (n : ℕ) (area : List ℕ) (s : length area ≡ 512
   in_bytes : n * 512 + 512 ≤ length bytes
   in_bytes = omega arith
 
-  same_count : whole_blocks (overwritten bytes n area) ≡ whole_blocks bytes
+  pub same_count : whole_blocks (overwritten bytes n area) ≡ whole_blocks bytes
   same_count = ap (λ k. min (k / 512) 4096) (length_overwritten bytes area n in_bytes s)
 
   as_block : List ℕ → ℕ → Block
@@ -80,3 +82,35 @@ module _ (bytes : List ℕ) (n : ℕ) (area : List ℕ) (s : length area ≡ 512
   plain_outside_kept =
       ap (λ l. record { bytes = l; tallies = []; blocks = [] })
       (ap (λ k. drop (k * 512) (overwritten bytes n area)) same_count ∙ tail_kept bytes area n in_bytes s (whole_blocks bytes) h)
+
+-- lent bytes are known by the blocks of the plain image and by its tail
+module _ (x y : List ℕ) (p : plain x ≡ plain y) (q : plain_outside x ≡ plain_outside y) where
+  as_many : whole_blocks x ≡ whole_blocks y
+  as_many = omega (arith, count_plain x, count_plain y, ap count p)
+
+  tails : drop (whole_blocks x * 512) x ≡ drop (whole_blocks y * 512) y
+  tails = ap (λ o. o.bytes) q
+
+  blocks : (n : ℕ) → n < whole_blocks x → block_bytes x n ≡ block_bytes y n
+  blocks n h =
+      ap (λ b. b.bytes)
+      (sym (block_plain x n (omega (arith, count_plain x))) ∙ ap (λ m. block m n) p ∙ block_plain y n (omega (arith, count_plain y, as_many)))
+
+  in_block : (l : List ℕ) (i d : ℕ) → get_or (block_bytes l (i / 512)) (i % 512) d ≡ get_or l i d
+  in_block l i d =
+      get_or-take 512 (drop (i / 512 * 512) l) (i % 512) d (omega arith) ∙ get_or-drop (i / 512 * 512) l (i % 512) d
+      ∙ ap (λ j. get_or l j d) (div-add-mod' i 512)
+
+  in_tail : (l : List ℕ) (k i d : ℕ) → k * 512 ≤ i → get_or (drop (k * 512) l) (i - k * 512) d ≡ get_or l i d
+  in_tail l k i d h = get_or-drop (k * 512) l (i - k * 512) d ∙ ap (λ j. get_or l j d) (omega arith)
+
+  pub same_bytes : x ≡ y
+  same_bytes =
+      same_lists x y (omega (arith, as_many, length-drop (whole_blocks x * 512) x, length-drop (whole_blocks y * 512) y, ap length tails))
+      (λ i d h.
+      ⊎_elim
+      (λ inside. sym (in_block x i d) ∙ ap (λ l. get_or l (i % 512) d) (blocks (i / 512) (omega arith)) ∙ in_block y i d)
+      (λ behind.
+      sym (in_tail x (whole_blocks x) i d behind) ∙ ap (λ l. get_or l (i - whole_blocks x * 512) d) tails
+      ∙ ap (λ k. get_or (drop (whole_blocks y * 512) y) (i - k * 512) d) as_many ∙ in_tail y (whole_blocks y) i d (omega (arith, as_many)))
+      (cases_lt i (whole_blocks x * 512)))

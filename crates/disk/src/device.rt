@@ -1,5 +1,5 @@
 // A disk, as its callers know it.
-ghost use Rattle.std.specs.Prelude.{◌≡◌, length};
+ghost use Rattle.std.specs.Prelude.{◌≡◌, length, replicate, MatchResult};
 ghost use Rattle.disk.specs.Model.{DiskModel, Outside, Bounds, count as count_of, access_answer, after_read, after_write, area_after_read, Admission};
 
 use crate::fault::{Fault, Refusal};
@@ -48,18 +48,29 @@ pub(crate) fn admit(number: usize, size: usize, count: usize, height: u8) -> Res
     ensures { Admission count height number size result }
 {
     if size != BLOCK_LENGTH {
-        return Err(Fault {
-            cause: Refusal::WrongLength,
-            number,
-            height,
-        });
+        return Err(Refusal::WrongLength.at(number, height));
     }
     if number >= count {
-        return Err(Fault {
-            cause: Refusal::NoSuchBlock,
-            number,
-            height,
-        });
+        return Err(Refusal::NoSuchBlock.at(number, height));
     }
     Ok(())
+}
+
+// Passes on how far a read came; a refused one leaves the area all zero.
+pub(crate) fn zero_if_refused(answer: Result<(), Fault>, area: &mut [u8]) -> Result<(), Fault>
+    ensures answer { result ≡ answer }
+    ensures area { MatchResult answer (λ _. area.new ≡ area.old) (λ _. area.new ≡ replicate (length area.old) 0) }
+{
+    if answer.is_err() {
+        area.fill(0);
+    }
+    answer
+}
+
+// The same as `admit`, of a read.
+pub(crate) fn admit_read(number: usize, area: &mut [u8], count: usize, height: u8) -> Result<(), Fault>
+    ensures admission { Admission count height number (length area.old) result }
+    ensures area { MatchResult result (λ _. area.new ≡ area.old) (λ _. area.new ≡ replicate (length area.old) 0) }
+{
+    zero_if_refused(admit(number, area.len(), count, height), area)
 }

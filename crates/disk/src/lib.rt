@@ -2,7 +2,6 @@
 // lease manager answers with, and the guard that zeroes a lent area.
 #![tactic(auto)]
 
-mod blocks;
 mod device;
 mod fault;
 mod guard;

@@ -1,11 +1,10 @@
 // A disk over bytes that are lent to it; its blocks never fail, and a tail that fills no block is never touched.
-ghost use Rattle.std.specs.Prelude.{◌≡◌, ◌<◌, length};
+ghost use Rattle.std.specs.Prelude.{◌≡◌, ◌<◌};
 ghost use Rattle.disk.specs.Images.{plain, plain_outside, whole_blocks, block_bytes};
 ghost use Rattle.disk.specs.History.{History};
 ghost use Rattle.disk.specs.Bounds.{plain_bounds};
 
-use crate::blocks::{blocks_in, read_block, write_block};
-use crate::device::{Disk, admit};
+use crate::device::{BLOCK_LENGTH, Disk, MOST_BLOCKS, admit, admit_read};
 use crate::fault::Fault;
 
 #[derive(Drop)]
@@ -24,13 +23,13 @@ impl<'a> PlainImage<'a> {
 }
 
 impl PlainImage<'_> {
-    // Through `&self`, so that the bytes are known to stay.
-    fn copy_out(&self, number: usize, area: &mut [u8])
-        requires within { number < whole_blocks self.now.bytes.now }
-        requires whole { length area.old ≡ 512 }
-        ensures { area.new ≡ block_bytes self.now.bytes.now number }
+    // The bytes of a block. Through `&self`, so that they are known to stay.
+    fn block(&self, number: usize) -> &[u8]
+        requires { number < whole_blocks self.now.bytes.now }
+        ensures { result.now ≡ block_bytes self.now.bytes.now number }
     {
-        read_block(self.bytes, number, area);
+        let start = number * BLOCK_LENGTH;
+        &self.bytes[start..start + BLOCK_LENGTH]
     }
 }
 
@@ -42,7 +41,7 @@ impl Disk for PlainImage<'_> {
     ghost bounds = { λ s. plain_bounds s.bytes.now };
 
     fn count(&self) -> usize {
-        blocks_in(self.bytes)
+        (self.bytes.len() / BLOCK_LENGTH).min(MOST_BLOCKS)
     }
 
     fn height(&self) -> u8 {
@@ -50,17 +49,15 @@ impl Disk for PlainImage<'_> {
     }
 
     fn read(&mut self, number: usize, area: &mut [u8]) -> Result<(), Fault> {
-        if let Err(fault) = admit(number, area.len(), self.count(), 0) {
-            area.fill(0);
-            return Err(fault);
-        }
-        self.copy_out(number, area);
+        admit_read(number, area, self.count(), 0)?;
+        area.copy_from_slice(self.block(number));
         Ok(())
     }
 
     fn write(&mut self, number: usize, area: &[u8]) -> Result<(), Fault> {
         admit(number, area.len(), self.count(), 0)?;
-        write_block(self.bytes, number, area);
+        let start = number * BLOCK_LENGTH;
+        self.bytes[start..start + BLOCK_LENGTH].copy_from_slice(area);
         Ok(())
     }
 }

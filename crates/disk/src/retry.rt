@@ -4,7 +4,7 @@ ghost use Rattle.disk.specs.Layers.{tries_from, retried};
 ghost use Rattle.disk.specs.History.{History};
 ghost use Rattle.disk.specs.Bounds.{retried_bounds};
 
-use crate::device::{Disk, admit};
+use crate::device::{Disk, admit, admit_read};
 use crate::fault::Fault;
 
 // The most times that an access is tried.
@@ -49,10 +49,7 @@ impl<D: Disk> Disk for Retry<D> {
     }
 
     fn read(&mut self, number: usize, area: &mut [u8]) -> Result<(), Fault> {
-        if let Err(fault) = admit(number, area.len(), self.count(), self.height()) {
-            area.fill(0);
-            return Err(fault);
-        }
+        admit_read(number, area, self.count(), self.height())?;
         for _again in 1..self.tries() {
             if self.below.read(number, area).is_ok() {
                 return Ok(());

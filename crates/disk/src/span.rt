@@ -4,7 +4,7 @@ ghost use Rattle.disk.specs.Layers.{spanned, spanned_outside};
 ghost use Rattle.disk.specs.History.{History};
 ghost use Rattle.disk.specs.Bounds.{spanned_bounds};
 
-use crate::device::{Disk, admit};
+use crate::device::{Disk, admit, admit_read};
 use crate::fault::Fault;
 
 // Blocks `base` to `base + length - 1` of the disk below, as far as they exist; both numbers may be any.
@@ -47,10 +47,7 @@ impl<D: Disk> Disk for Span<D> {
     }
 
     fn read(&mut self, number: usize, area: &mut [u8]) -> Result<(), Fault> {
-        if let Err(fault) = admit(number, area.len(), self.count(), self.height()) {
-            area.fill(0);
-            return Err(fault);
-        }
+        admit_read(number, area, self.count(), self.height())?;
         self.below.read(self.base + number, area)
     }
 

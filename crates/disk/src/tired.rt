@@ -1,18 +1,18 @@
 // A disk over lent bytes and a lent list of tallies, by which the accesses of its blocks fail.
-ghost use Rattle.std.specs.Prelude.{◌≡◌, ◌<◌, not, length, slice_set};
-ghost use Rattle.disk.specs.Images.{tired, tired_outside, whole_blocks, block_bytes};
+ghost use Rattle.std.specs.Prelude.{◌≡◌, ◌<◌, true, false, length, slice_set, MatchResult};
+ghost use Rattle.disk.specs.Images.{tired, tired_outside};
 ghost use Rattle.disk.specs.Tallies.{tally as tally_of, exhausted, tally_after};
 ghost use Rattle.disk.specs.History.{History};
 ghost use Rattle.disk.specs.Bounds.{tired_bounds};
 
-use crate::blocks::{blocks_in, read_block, write_block};
-use crate::device::{Disk, admit};
+use crate::device::{Disk, admit, admit_read, zero_if_refused};
 use crate::fault::{Fault, Refusal};
+use crate::plain::PlainImage;
 use crate::tally::Tally;
 
 #[derive(Drop)]
 pub struct TiredImage<'a> {
-    bytes: &'a mut [u8],
+    image: PlainImage<'a>,
     tallies: &'a mut [Tally],
 }
 
@@ -39,48 +39,43 @@ impl Tally {
     }
 }
 
-// Counts an access of the block, and says whether it succeeds.
-fn count_access(tallies: &mut [Tally], number: usize) -> bool
+// Counts an access of the block, which its tally may let fail.
+fn count_access(tallies: &mut [Tally], number: usize) -> Result<(), Fault>
     requires { number < length tallies.old }
-    ensures succeeds { result ≡ not (exhausted (tally_of tallies.old number)) }
+    ensures answer { MatchResult result (λ _. exhausted (tally_of tallies.old number) ≡ false) (λ f. (exhausted (tally_of tallies.old number) ≡ true) × (f ≡ record { cause = Refusal.AccessFailed; number = number; height = 0 })) }
     ensures after { tallies.new ≡ slice_set tallies.old number (tally_after (tally_of tallies.old number)) }
 {
     let tally = tallies[number];
     tallies[number] = tally.after_access();
-    !tally.is_exhausted()
+    if tally.is_exhausted() {
+        return Err(Refusal::AccessFailed.at(number, 0));
+    }
+    Ok(())
 }
 
 impl<'a> TiredImage<'a> {
     pub fn new(bytes: &'a mut [u8], tallies: &'a mut [Tally]) -> TiredImage<'a>
-        ensures bytes { result.bytes.now ≡ bytes.old }
+        ensures bytes { result.image.bytes.now ≡ bytes.old }
         ensures tallies { result.tallies.now ≡ tallies.old }
-        ensures lent { (result.bytes.ghost_name ≡ bytes.entry.ghost_name) × (result.tallies.ghost_name ≡ tallies.entry.ghost_name) }
+        ensures lent { (result.image.bytes.ghost_name ≡ bytes.entry.ghost_name) × (result.tallies.ghost_name ≡ tallies.entry.ghost_name) }
         ensures history { History (tired bytes.old tallies.old) }
     {
-        TiredImage { bytes, tallies }
-    }
-}
-
-impl TiredImage<'_> {
-    // Through `&self`, so that the bytes are known to stay.
-    fn copy_out(&self, number: usize, area: &mut [u8])
-        requires within { number < whole_blocks self.now.bytes.now }
-        requires whole { length area.old ≡ 512 }
-        ensures { area.new ≡ block_bytes self.now.bytes.now number }
-    {
-        read_block(self.bytes, number, area);
+        TiredImage {
+            image: PlainImage::new(bytes),
+            tallies,
+        }
     }
 }
 
 impl Disk for TiredImage<'_> {
-    ghost meaning = { λ s. tired s.bytes.now s.tallies.now };
+    ghost meaning = { λ s. tired s.image.bytes.now s.tallies.now };
 
-    ghost outside = { λ s. tired_outside s.bytes.now s.tallies.now };
+    ghost outside = { λ s. tired_outside s.image.bytes.now s.tallies.now };
 
-    ghost bounds = { λ s. tired_bounds s.bytes.now s.tallies.now };
+    ghost bounds = { λ s. tired_bounds s.image.bytes.now s.tallies.now };
 
     fn count(&self) -> usize {
-        blocks_in(self.bytes).min(self.tallies.len())
+        self.image.count().min(self.tallies.len())
     }
 
     fn height(&self) -> u8 {
@@ -88,32 +83,14 @@ impl Disk for TiredImage<'_> {
     }
 
     fn read(&mut self, number: usize, area: &mut [u8]) -> Result<(), Fault> {
-        if let Err(fault) = admit(number, area.len(), self.count(), 0) {
-            area.fill(0);
-            return Err(fault);
-        }
-        if !count_access(self.tallies, number) {
-            area.fill(0);
-            return Err(Fault {
-                cause: Refusal::AccessFailed,
-                number,
-                height: 0,
-            });
-        }
-        self.copy_out(number, area);
-        Ok(())
+        admit_read(number, area, self.count(), 0)?;
+        zero_if_refused(count_access(self.tallies, number), area)?;
+        self.image.read(number, area)
     }
 
     fn write(&mut self, number: usize, area: &[u8]) -> Result<(), Fault> {
         admit(number, area.len(), self.count(), 0)?;
-        if !count_access(self.tallies, number) {
-            return Err(Fault {
-                cause: Refusal::AccessFailed,
-                number,
-                height: 0,
-            });
-        }
-        write_block(self.bytes, number, area);
-        Ok(())
+        count_access(self.tallies, number)?;
+        self.image.write(number, area)
     }
 }
