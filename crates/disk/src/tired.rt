@@ -60,10 +60,8 @@ impl<'a> TiredImage<'a> {
         ensures lent { (result.image.bytes.ghost_name ≡ bytes.entry.ghost_name) × (result.tallies.ghost_name ≡ tallies.entry.ghost_name) }
         ensures history { History (tired bytes.old tallies.old) }
     {
-        TiredImage {
-            image: PlainImage::new(bytes),
-            tallies,
-        }
+        let image = PlainImage::new(bytes);
+        TiredImage { image, tallies }
     }
 }
 

@@ -22,7 +22,7 @@ below_count : (c : goal.In_ok-admit_read) → c.args.number < whole_blocks c.arg
 below_count c = omega (arith, (there c).within, count_plain c.args.self.now.bytes.now)
 
 pub block-requires : goal.block-requires
-block-requires c = below_count (goal.at.block-requires c).In_ok-admit_read
+block-requires c = omega (arith, below_count (goal.at.block-requires c).In_ok-admit_read)
 
 pub copy_from_slice-requires : goal.copy_from_slice-requires
 copy_from_slice-requires c =
