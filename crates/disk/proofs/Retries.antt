@@ -1,11 +1,14 @@
 -- Tries on the disk below, against one call on the layer.
-use Rattle.std.proofs.Common.{◌≡◌, ℕ, ◌+◌, ◌-◌, ◌/◌, ◌<◌, ◌≤◌, Bool, true, false, cond, ◌&&◌, eqb, ltb, List, replicate, is_ok, Ok, Err, Result, sym, refl, ap, ◌∙◌, ⊎_elim, arith, length-set, get_or-set_same}
+use Rattle.std.proofs.Common.{◌≡◌, ℕ, ◌+◌, ◌-◌, ◌/◌, ◌<◌, ◌≤◌, Bool, true, false, cond, ◌&&◌, eqb, ltb, List, replicate, is_ok, Ok, Err, Result, sym, refl, ap, ◌∙◌, ⊎_elim, arith, length, length-append, length-set, get_or-set_same}
 use native.Mathlib.Nat.{div-eq_of_lt, div-eq-sub-div}
+use Rattle.std.specs.List.{FoldsTo}
+use Rattle.std.proofs.lemmas.Fn.{chained_keeps}
 use Rattle.std.proofs.lemmas.List.{set-set, set-get_or, map-set}
 use Rattle.std.proofs.lemmas.Bool.{cases_eq, cases_lt, and_parts, and_cases, and_left, and_right, and_from, ltb-true, ltb-false, eqb-true, eqb-false, lt-ltb, le-ltb, ne_eqb, both_ways}
 use Rattle.disk.specs.declared.fault.Fault.{Fault}
 use Rattle.disk.specs.Model.{Block, DiskModel, count, block, no_block, with_block, fails, failure, after_failure, after_success, access_answer, after_access, area_after_read}
 use Rattle.disk.specs.Layers.{retried_block, retried}
+use Rattle.disk.specs.Tries.{FailedCall, Tried}
 use Rattle.disk.specs.Bounds.{count_retried, block_retried}
 use Rattle.disk.proofs.Accesses.{Admitted, Reached, reached}
 
@@ -135,7 +138,7 @@ module _ (m : DiskModel) (n size k : ℕ) (bytes : List ℕ) (x : DiskModel) (a 
   low : Reached x n size bytes (spent (block m n) k)
   low = reached x n size bytes (spent (block m n) k) (record { whole = a.whole; within = count_spent m n a.within k x p }) (block_spent m n a.within k x p)
 
-  pub next : is_ok (access_answer x n size) ≡ false → Spent m n (k + 1) (after_access x n size bytes)
+  next : is_ok (access_answer x n size) ≡ false → Spent m n (k + 1) (after_access x n size bytes)
   next e =
       let t = failed_by (spent (block m n) k) (access_answer x n size) (fails (spent (block m n) k)) low.answer_is e in
       one_more m n a.within k x (after_access x n size bytes) p t
@@ -155,9 +158,60 @@ module _ (m : DiskModel) (n size k : ℕ) (bytes : List ℕ) (x : DiskModel) (a 
         bytes_below = ap (λ y. y.bytes) (block_spent m n a.within k x p);
       }
 
-  pub done : (tries : ℕ) → k < tries → is_ok (access_answer x n size) ≡ true → Through tries m n size bytes x
+  done : (tries : ℕ) → k < tries → is_ok (access_answer x n size) ≡ true → Through tries m n size bytes x
   done tries lt e =
       through tries (level_quiet m n a.within tries k x bytes p lt (passed_by (spent (block m n) k) (access_answer x n size) (fails (spent (block m n) k)) low.answer_is e))
 
-  pub last : (tries : ℕ) → k + 1 ≡ tries → Through tries m n size bytes x
+  last : (tries : ℕ) → k + 1 ≡ tries → Through tries m n size bytes x
   last tries e = through tries (level_last m n a.within tries k x bytes (fails (spent (block m n) k)) refl p e)
+
+  -- a call that succeeds, or is the last of the tries
+  pub either : (tries : ℕ) → k < tries → (r : Result (Unit {0}) Fault) → r ≡ access_answer x n size → (is_ok r ≡ false → k + 1 ≡ tries) → Through tries m n size bytes x
+  either tries lt (Ok _) i spent = done tries lt (ap is_ok (sym i))
+  either tries lt (Err _) i spent = last tries (spent refl)
+
+-- calls, told by `step`, that are each an access of block n of the disk in their state; `Keeps` tells what they all keep of
+-- the state, and `Leaves` what each changes
+module _ {F : Type 0} (disk : F → DiskModel) (bytes : F → List ℕ) (Keeps Leaves : F → F → Type 0) (n size : ℕ) (start : F) where
+  pub record Access (p : F) (r : Result (Unit {0}) Fault) (q : F) : Type 0 where
+    pub answer_is : r ≡ access_answer (disk p) n size
+    pub disk_is : disk q ≡ after_access (disk p) n size (bytes p)
+    pub keeps : Keeps start q
+    pub leaves : Leaves p q
+
+  -- all of them together are an access of the layer; the last one found the state `before`
+  pub record Ended (tries : ℕ) (r : Result (Unit {0}) Fault) (left : F) : Type 0 where
+    pub before : F
+    pub kept : Keeps start before
+    pub keeps : Keeps start left
+    pub leaves : Leaves before left
+    pub answer_is : r ≡ access_answer (retried tries (disk start)) n size
+    pub disk_is : retried tries (disk left) ≡ after_access (retried tries (disk start)) n size (bytes before)
+    pub area_is : area_after_read (retried tries (disk start)) n size ≡ area_after_read (disk before) n size
+    pub bytes_is : (block (retried tries (disk start)) n).bytes ≡ (block (disk before) n).bytes
+
+module _ {F : Type 0} {step : F → Result (Unit {0}) Fault → F → Type 0} (disk : F → DiskModel) (bytes : F → List ℕ) (Keeps Leaves : F → F → Type 0) (n size : ℕ) {start : F} (k : Keeps start start) (each : (p : F) (r : Result (Unit {0}) Fault) (q : F) → Keeps start p → step p r q → Access disk bytes Keeps Leaves n size start p r q) (a : Admitted (disk start) n size) where
+  all_failed : (answers : List (Result (Unit {0}) Fault)) (before : F) → FoldsTo (FailedCall step) start answers before → Keeps start before × Spent (disk start) n (length answers) (disk before)
+  all_failed answers before f =
+      chained_keeps (FailedCall step) (λ xs q. Keeps start q × Spent (disk start) n (length xs) (disk q))
+      (λ xs q x v j s.
+      let e = each q x v j.0 s.0 in
+      let no : is_ok (access_answer (disk q) n size) ≡ false = ap is_ok (sym e.answer_is) ∙ s.1 in
+      (e.keeps, rw (length-append, e.disk_is) (next (disk start) n size (length xs) (bytes q) (disk q) a j.1 no)))
+      answers start before (k, none_spent (disk start) n) f
+
+  pub ended : (tries : ℕ) {r : Result (Unit {0}) Fault} {left : F} → Tried step tries start r left → Ended disk bytes Keeps Leaves n size start tries r left
+  ended tries {r} {left} t =
+      let f = all_failed t.answers t.before t.failed in
+      let e = each t.before r left f.0 t.last in
+      let u = either (disk start) n size (length t.answers) (bytes t.before) (disk t.before) a f.1 tries t.few r e.answer_is t.spent in
+      record {
+        before = t.before;
+        kept = f.0;
+        keeps = e.keeps;
+        leaves = e.leaves;
+        answer_is = e.answer_is ∙ sym u.answer_is;
+        disk_is = ap (retried tries) e.disk_is ∙ sym u.disk_is;
+        area_is = u.area_is;
+        bytes_is = u.bytes_is ∙ sym u.bytes_below;
+      }

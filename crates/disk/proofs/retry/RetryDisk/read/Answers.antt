@@ -1,9 +1,9 @@
-use Rattle.std.proofs.Common.{◌≡◌, ◌+◌, ◌-◌, true, false, length, is_ok, sym, refl, ap, ◌∙◌, arith, rules}
-use Rattle.disk.specs.Model.{block, access_answer}
-use Rattle.disk.specs.Layers.{tries_from, retried}
+use Rattle.std.proofs.Common.{◌≡◌, ℕ, List, length, sym, refl, ap, ◌∙◌, arith, rules, Bor, MutBor}
+use Rattle.disk.specs.Model.{DiskModel, block, after_access, area_after_read}
+use Rattle.disk.specs.Layers.{retried}
 use Rattle.disk.specs.Bounds.{count_retried}
 use Rattle.disk.proofs.Accesses.{Admitted, admitted, refused}
-use Rattle.disk.proofs.Retries.{none_spent, next, done, last}
+use Rattle.disk.proofs.Retries.{ended}
 use Rattle.disk.proofs.retry.RetryDisk.read.Given.{Over}
 use Rattle.disk.proofs.retry.RetryDisk.read.Goals as goal
 use Rattle.disk.proofs.retry.RetryDisk.read.Goals.{In_ok-admit_read}
@@ -11,7 +11,7 @@ use Rattle.disk.proofs.retry.RetryDisk.read.Goals.{In_ok-admit_read}
 pub returns-in_err-admit_read : goal.returns-in_err-admit_read
 returns-in_err-admit_read g c =
     let s = c.args.self.now in
-    let m = retried (tries_from s.wanted) (g.D.Disk.meaning s.below) in
+    let m = retried s.tries (g.D.Disk.meaning s.below) in
     let n = c.args.number in
     let r = refused m n (length c.args.area.now) c.count.ensures c.height.ensures (block m n).bytes c.in_err-admit_read.field-0.0 c.in_err-admit_read.ensures.admission in
     search rules
@@ -20,52 +20,38 @@ returns-in_err-admit_read g c =
 there : (g : Over) (c : goal.In_ok-admit_read g) → Admitted (g.D.Disk.meaning c.args.self.now.below) c.args.number (length c.args.area.now)
 there g c =
     let s = c.args.self.now in
-    let tries = tries_from s.wanted in
     let m = g.D.Disk.meaning s.below in
-    let a = admitted (retried tries m) c.args.number (length c.args.area.now) c.count.ensures c.height.ensures c.in_ok-admit_read.ensures.admission in
-    record { whole = a.whole; within = omega (arith, a.within, count_retried tries m) }
+    let a = admitted (retried s.tries m) c.args.number (length c.args.area.now) c.count.ensures c.height.ensures c.in_ok-admit_read.ensures.admission in
+    record { whole = a.whole; within = omega (arith, a.within, count_retried s.tries m) }
 
-pub loop-again-init : goal.loop-again-init
-loop-again-init g c = (none_spent _ _, refl, refl)
+-- the closure's state: the disk below, the number and the area; what the tries keep of it, and what each leaves in the area
+abbrev State : Over → Type 0
+State g = MutBor g.row.D.Denot × Bor ℕ × MutBor (List ℕ)
 
-pub returns-then-is_ok : goal.returns-then-is_ok
-returns-then-is_ok g c =
-    let a = there g (goal.at.returns-then-is_ok g c).In_ok-admit_read in
-    let s = c.args.self.now in
-    let m = g.D.Disk.meaning s.below in
-    let x = g.D.Disk.meaning c.loop-again.self.below in
+abbrev below : (g : Over) → State g → DiskModel
+below g s = g.D.Disk.meaning s.0.now
+
+abbrev Keeps : (g : Over) → State g → State g → Type 0
+Keeps g s p =
+    (p.0.ghost_name ≡ s.0.ghost_name) × (g.D.Disk.outside p.0.now ≡ g.D.Disk.outside s.0.now) × (p.1.now ≡ s.1.now)
+    × (p.2.ghost_name ≡ s.2.ghost_name) × (length p.2.now ≡ length s.2.now)
+
+abbrev Fills : (g : Over) → ℕ → ℕ → State g → State g → Type 0
+Fills g n size p q = q.2.now ≡ area_after_read (below g p) n size
+
+pub shape_of-self : goal.shape_of-self
+shape_of-self g c =
+    let a = there g (goal.at.shape_of-self g c).In_ok-admit_read in
     let n = c.args.number in
-    let size = length c.loop-again.area in
-    let k = c.loop-again._again - 1 in
-    let b : Admitted m n size = record { whole = c.loop-again.auto.area ∙ c.admit_read.auto.area ∙ a.whole; within = a.within } in
-    let ok : is_ok (access_answer x n size) ≡ true = sym (c.if-is_ok.ensures.value ∙ ap is_ok c.read.ensures.answer) in
-    let r = done m n size k (block m n).bytes x b c.loop-again.invariant.0 (tries_from s.wanted) (omega arith) ok in
-    search rules
-
-pub loop-again-preserved : goal.loop-again-preserved
-loop-again-preserved g c =
-    let a = there g (goal.at.loop-again-preserved g c).In_ok-admit_read in
-    let s = c.args.self.now in
-    let m = g.D.Disk.meaning s.below in
-    let x = g.D.Disk.meaning c.loop-again.self.below in
-    let n = c.args.number in
-    let size = length c.loop-again.area in
-    let k = c.loop-again._again - 1 in
-    let b : Admitted m n size = record { whole = c.loop-again.auto.area ∙ c.admit_read.auto.area ∙ a.whole; within = a.within } in
-    let no : is_ok (access_answer x n size) ≡ false = sym (c.if-is_ok.ensures.value ∙ ap is_ok c.read.ensures.answer) in
-    let r = next m n size k (block x n).bytes x b c.loop-again.invariant.0 no in
-    let up : c.loop-again._again - 1 + 1 ≡ c.loop-again._again + 1 - 1 = omega arith in
-    (rw (← up, c.read.ensures.disk) r, c.loop-again.invariant.1, c.read.ensures.outside ∙ c.loop-again.invariant.2)
+    let size = length c.args.area.now in
+    let e = ended (below g) (λ p. (block (below g p) n).bytes) (Keeps g) (Fills g n size) n size (refl, refl, refl, refl, refl) (λ p r q k s. search rules) a c.args.self.now.tries c.attempt.ensures in
+    sym e.keeps.0
 
 pub returns : goal.returns
 returns g c =
     let a = there g (goal.at.returns g c).In_ok-admit_read in
-    let s = c.args.self.now in
-    let m = g.D.Disk.meaning s.below in
-    let x = g.D.Disk.meaning c.loop-again.self.below in
     let n = c.args.number in
-    let size = length c.loop-again.area in
-    let k = c.loop-again._again - 1 in
-    let b : Admitted m n size = record { whole = c.loop-again.auto.area ∙ c.admit_read.auto.area ∙ a.whole; within = a.within } in
-    let r = last m n size k (block m n).bytes x b c.loop-again.invariant.0 (tries_from s.wanted) (omega arith) in
-    search rules
+    let size = length c.args.area.now in
+    let e = ended (below g) (λ p. (block (below g p) n).bytes) (Keeps g) (Fills g n size) n size (refl, refl, refl, refl, refl) (λ p r q k s. search rules) a c.args.self.now.tries c.attempt.ensures in
+    let same_area = sym e.keeps.3 in
+    record { answer = e.answer_is; disk = e.disk_is ∙ ap (after_access _ _ _) (sym e.bytes_is); area = search rules; outside = e.keeps.1 }

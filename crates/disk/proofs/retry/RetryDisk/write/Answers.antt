@@ -1,9 +1,9 @@
-use Rattle.std.proofs.Common.{◌≡◌, ◌+◌, ◌-◌, true, false, length, is_ok, sym, refl, ap, ◌∙◌, arith, rules}
-use Rattle.disk.specs.Model.{access_answer}
-use Rattle.disk.specs.Layers.{tries_from, retried}
+use Rattle.std.proofs.Common.{◌≡◌, ℕ, List, length, sym, refl, ap, ◌∙◌, arith, rules, Bor, MutBor}
+use Rattle.disk.specs.Model.{after_access}
+use Rattle.disk.specs.Layers.{retried}
 use Rattle.disk.specs.Bounds.{count_retried}
 use Rattle.disk.proofs.Accesses.{Admitted, admitted, refused}
-use Rattle.disk.proofs.Retries.{none_spent, next, done, last}
+use Rattle.disk.proofs.Retries.{ended}
 use Rattle.disk.proofs.retry.RetryDisk.write.Given.{Over}
 use Rattle.disk.proofs.retry.RetryDisk.write.Goals as goal
 use Rattle.disk.proofs.retry.RetryDisk.write.Goals.{In_ok-admit}
@@ -11,7 +11,7 @@ use Rattle.disk.proofs.retry.RetryDisk.write.Goals.{In_ok-admit}
 pub returns-in_err-admit : goal.returns-in_err-admit
 returns-in_err-admit g c =
     let s = c.args.self.now in
-    let m = retried (tries_from s.wanted) (g.D.Disk.meaning s.below) in
+    let m = retried s.tries (g.D.Disk.meaning s.below) in
     let area = c.args.area.now in
     let r = refused m c.args.number (length area) c.count.ensures c.height.ensures area c.in_err-admit.field-0.0 c.in_err-admit.ensures in
     search rules
@@ -20,40 +20,25 @@ returns-in_err-admit g c =
 there : (g : Over) (c : goal.In_ok-admit g) → Admitted (g.D.Disk.meaning c.args.self.now.below) c.args.number (length c.args.area.now)
 there g c =
     let s = c.args.self.now in
-    let tries = tries_from s.wanted in
     let m = g.D.Disk.meaning s.below in
-    let a = admitted (retried tries m) c.args.number (length c.args.area.now) c.count.ensures c.height.ensures c.in_ok-admit.ensures in
-    record { whole = a.whole; within = omega (arith, a.within, count_retried tries m) }
+    let a = admitted (retried s.tries m) c.args.number (length c.args.area.now) c.count.ensures c.height.ensures c.in_ok-admit.ensures in
+    record { whole = a.whole; within = omega (arith, a.within, count_retried s.tries m) }
 
-pub loop-again-init : goal.loop-again-init
-loop-again-init g c = (none_spent _ _, refl, refl)
+-- the closure's state: the disk below, the number and the area; what the tries keep of it
+abbrev State : Over → Type 0
+State g = MutBor g.row.D.Denot × Bor ℕ × Bor (List ℕ)
 
-pub returns-then-is_ok : goal.returns-then-is_ok
-returns-then-is_ok g c =
-    let a = there g (goal.at.returns-then-is_ok g c).In_ok-admit in
-    let s = c.args.self.now in
-    let x = g.D.Disk.meaning c.loop-again.self.below in
-    let area = c.args.area.now in
-    let ok : is_ok (access_answer x c.args.number (length area)) ≡ true = sym (c.if-is_ok.ensures.value ∙ ap is_ok c.write.ensures.answer) in
-    let r = done (g.D.Disk.meaning s.below) c.args.number (length area) (c.loop-again._again - 1) area x a c.loop-again.invariant.0 (tries_from s.wanted) (omega arith) ok in
-    search rules
+abbrev Keeps : (g : Over) → State g → State g → Type 0
+Keeps g s p = (p.0.ghost_name ≡ s.0.ghost_name) × (g.D.Disk.outside p.0.now ≡ g.D.Disk.outside s.0.now) × (p.1.now ≡ s.1.now) × (p.2.now ≡ s.2.now)
 
-pub loop-again-preserved : goal.loop-again-preserved
-loop-again-preserved g c =
-    let a = there g (goal.at.loop-again-preserved g c).In_ok-admit in
-    let s = c.args.self.now in
-    let x = g.D.Disk.meaning c.loop-again.self.below in
-    let area = c.args.area.now in
-    let no : is_ok (access_answer x c.args.number (length area)) ≡ false = sym (c.if-is_ok.ensures.value ∙ ap is_ok c.write.ensures.answer) in
-    let r = next (g.D.Disk.meaning s.below) c.args.number (length area) (c.loop-again._again - 1) area x a c.loop-again.invariant.0 no in
-    let up : c.loop-again._again - 1 + 1 ≡ c.loop-again._again + 1 - 1 = omega arith in
-    (rw (← up, c.write.ensures.disk) r, c.loop-again.invariant.1, c.write.ensures.outside ∙ c.loop-again.invariant.2)
+pub shape_of-self : goal.shape_of-self
+shape_of-self g c =
+    let a = there g (goal.at.shape_of-self g c).In_ok-admit in
+    let e = ended (λ p. g.D.Disk.meaning p.0.now) (λ p. p.2.now) (Keeps g) (λ p q. Unit {0}) c.args.number (length c.args.area.now) (refl, refl, refl, refl) (λ p r q k s. search rules) a c.args.self.now.tries c.attempt.ensures in
+    sym e.keeps.0
 
 pub returns : goal.returns
 returns g c =
     let a = there g (goal.at.returns g c).In_ok-admit in
-    let s = c.args.self.now in
-    let x = g.D.Disk.meaning c.loop-again.self.below in
-    let area = c.args.area.now in
-    let r = last (g.D.Disk.meaning s.below) c.args.number (length area) (c.loop-again._again - 1) area x a c.loop-again.invariant.0 (tries_from s.wanted) (omega arith) in
-    search rules
+    let e = ended (λ p. g.D.Disk.meaning p.0.now) (λ p. p.2.now) (Keeps g) (λ p q. Unit {0}) c.args.number (length c.args.area.now) (refl, refl, refl, refl) (λ p r q k s. search rules) a c.args.self.now.tries c.attempt.ensures in
+    record { answer = e.answer_is; disk = e.disk_is ∙ ap (after_access _ _ _) e.kept.3; outside = e.keeps.1 }
