@@ -1,14 +1,7 @@
 -- What an access answers and leaves, where it comes to no block and where it comes to one.
 use Rattle.std.proofs.Common.{◌≡◌, ℕ, ◌<◌, Bool, true, false, cond, not, eqb, ltb, List, replicate, Ok, Err, refl}
 use Rattle.std.proofs.lemmas.Bool.{ltb-true, eqb-true, and_parts, lt-ltb, eq-eqb, and_from}
-use Rattle.disk.specs.declared.fault.Fault.{Fault}
-use Rattle.disk.specs.Model.{Block, DiskModel, Admission, block_length, count, block, with_block, fails, failure, after_failure, after_success, reaches, access_answer, after_access, area_after_read}
-
--- an access that comes to no block, with this fault
-pub record Refused (m : DiskModel) (n size : ℕ) (bytes : List ℕ) (f : Fault) : Type 0 where
-  pub answer_is : access_answer m n size ≡ Err f
-  pub disk_is : after_access m n size bytes ≡ m
-  pub area_is : area_after_read m n size ≡ replicate size 0
+use Rattle.disk.specs.Model.{Block, DiskModel, block_length, count, block, with_block, fails, failure, after_failure, after_success, reaches, admissible, inadmissible, access_answer, after_access, area_after_read}
 
 -- an access that comes to the block b
 pub record Reached (m : DiskModel) (n size : ℕ) (bytes : List ℕ) (b : Block) : Type 0 where
@@ -36,15 +29,22 @@ reached m n size bytes b a i =
       area_is = rw e (turned (fails (block m n)) (block m n).bytes (replicate size 0));
     })
 
--- what `admit` told, where it was given the disk's count and height
-module _ (m : DiskModel) (n size : ℕ) {total height : ℕ} (t : total ≡ count m) (h : height ≡ m.height) where
-  pub refused : (bytes : List ℕ) (f : Fault) → Admission total height n size (Err f) → Refused m n size bytes f
-  unfolding access_answer after_access area_after_read
-  refused bytes f a =
-      let e : reaches m n size ≡ false = rw (← t) a.0 in
-      record { answer_is = rw (e, ← h, a.1); disk_is = rw e; area_is = rw e }
+-- what `admit` tells of an access, where it is given the disk's count
+pub admitted : (m : DiskModel) (n size : ℕ) {total : ℕ} → total ≡ count m → admissible total n size ≡ true → Admitted m n size
+admitted m n size {total} t a =
+    let parts = and_parts (eqb size block_length) (ltb n total) a in
+    record { whole = eqb-true size block_length parts.0; within = rw (← t) (ltb-true n total parts.1) }
 
-  pub admitted : Admission total height n size (Ok tt) → Admitted m n size
-  admitted a =
-      let parts = and_parts (eqb size block_length) (ltb n total) a in
-      record { whole = eqb-true size block_length parts.0; within = rw (← t) (ltb-true n total parts.1) }
+-- an access that comes to no block
+module _ (m : DiskModel) (n size : ℕ) (no : reaches m n size ≡ false) where
+  pub refused_answer : access_answer m n size ≡ Err (inadmissible m.height n size)
+  unfolding access_answer
+  refused_answer = rw no
+
+  pub refused_disk : (bytes : List ℕ) → after_access m n size bytes ≡ m
+  unfolding after_access
+  refused_disk bytes = rw no
+
+  pub refused_area : area_after_read m n size ≡ replicate size 0
+  unfolding area_after_read
+  refused_area = rw no

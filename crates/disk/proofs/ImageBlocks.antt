@@ -21,6 +21,9 @@ changed_at f g k n same =
     (λ ne. at ∙ same i ne ∙ sym (get_or-set_other (map f (range_with_len 0 k)) n i (g n) d ne ∙ get_or-map-range_with_len f 0 k i i d lt (omega arith)))
     (cases_eq i n))
 
+pub length_block : (bytes : List ℕ) (n : ℕ) → n < whole_blocks bytes → length (block_bytes bytes n) ≡ 512
+length_block bytes n h = simp (length-take, length-drop) (omega arith)
+
 module _ (bytes area : List ℕ) (n : ℕ) (h : n * 512 + 512 ≤ length bytes) (s : length area ≡ 512) where
   front : length (take (n * 512) bytes) ≡ n * 512
   front = simp length-take (omega arith)

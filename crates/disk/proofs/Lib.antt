@@ -4,3 +4,4 @@ pub mod TiredBlocks
 pub mod Spans
 pub mod Retries
 pub mod Histories
+pub mod Disks

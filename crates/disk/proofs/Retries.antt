@@ -35,11 +35,11 @@ loud good due k tries last e =
     let same : due - k - 1 ≡ due - tries = omega arith in
     (and_from (eqb good 0) (ltb 0 (due / tries)) parts.0 (lt-ltb 0 (due / tries) (omega arith)), ap (λ x. x / tries) same ∙ omega arith)
 
--- a block after k calls that failure
+-- a block after k calls that fail
 abbrev pub spent : Block → ℕ → Block
 spent b k = record { bytes = b.bytes; good = b.good; due = b.due - k; home = b.home }
 
--- the disk x is m after k calls on block n that failure
+-- the disk x is m after k calls on block n that fail
 pub record Spent (m : DiskModel) (n k : ℕ) (x : DiskModel) : Type 0 where
   pub disk : x ≡ with_block m n (spent (block m n) k)
   pub low : k ≤ (block m n).due
@@ -64,10 +64,6 @@ failed_by : (b : Block) (r : Result (Unit {0}) Fault) (t : Bool) → r ≡ cond 
 failed_by b r true e i = refl
 failed_by b r false e i = absurd (both_ways (is_ok r) i (ap is_ok e))
 
-passed_by : (b : Block) (r : Result (Unit {0}) Fault) (t : Bool) → r ≡ cond t (Err (failure b)) (Ok tt) → is_ok r ≡ true → t ≡ false
-passed_by b r true e i = absurd (both_ways (is_ok r) (ap is_ok e) i)
-passed_by b r false e i = refl
-
 module _ (m : DiskModel) (n : ℕ) (h : n < count m) where
   count_spent : (k : ℕ) (x : DiskModel) → Spent m n k x → n < count x
   count_spent k x p =
@@ -81,7 +77,7 @@ module _ (m : DiskModel) (n : ℕ) (h : n < count m) where
       ap (λ z. with_block z n y) p.disk
       ∙ ap (λ l. record { height = m.height; blocks = l }) (set-set m.blocks n (spent (block m n) k) y)
 
-  -- one call more that failure
+  -- one call more that fails
   one_more : (k : ℕ) (x y : DiskModel) → Spent m n k x → fails (spent (block m n) k) ≡ true → y ≡ with_block x n (after_failure (spent (block m n) k)) → Spent m n (k + 1) y
   unfolding as_block
   one_more k x y p e i =
@@ -122,9 +118,9 @@ module _ (m : DiskModel) (n : ℕ) (h : n < count m) where
         block_is = rw (q.0, e) (ap (λ d. as_block b.bytes b.good d b.home) (sym q.1));
       }
 
-  level_last : (tries k : ℕ) (x : DiskModel) (bytes : List ℕ) (t : Bool) → fails (spent (block m n) k) ≡ t → Spent m n k x → k + 1 ≡ tries → Level tries k bytes
-  level_last tries k x bytes true e p last = level_loud tries k bytes last e
-  level_last tries k x bytes false e p last = level_quiet tries k x bytes p (omega arith) e
+  level : (tries k : ℕ) (x : DiskModel) (bytes : List ℕ) (t : Bool) → fails (spent (block m n) k) ≡ t → Spent m n k x → k < tries → (t ≡ true → k + 1 ≡ tries) → Level tries k bytes
+  level tries k x bytes true e p lt last = level_loud tries k bytes (last refl) e
+  level tries k x bytes false e p lt last = level_quiet tries k x bytes p lt e
 
 -- an access of the layer over m, and the last one below, of x
 pub record Through (tries : ℕ) (m : DiskModel) (n size : ℕ) (bytes : List ℕ) (x : DiskModel) : Type 0 where
@@ -158,17 +154,12 @@ module _ (m : DiskModel) (n size k : ℕ) (bytes : List ℕ) (x : DiskModel) (a 
         bytes_below = ap (λ y. y.bytes) (block_spent m n a.within k x p);
       }
 
-  done : (tries : ℕ) → k < tries → is_ok (access_answer x n size) ≡ true → Through tries m n size bytes x
-  done tries lt e =
-      through tries (level_quiet m n a.within tries k x bytes p lt (passed_by (spent (block m n) k) (access_answer x n size) (fails (spent (block m n) k)) low.answer_is e))
-
-  last : (tries : ℕ) → k + 1 ≡ tries → Through tries m n size bytes x
-  last tries e = through tries (level_last m n a.within tries k x bytes (fails (spent (block m n) k)) refl p e)
-
   -- a call that succeeds, or is the last of the tries
-  pub either : (tries : ℕ) → k < tries → (r : Result (Unit {0}) Fault) → r ≡ access_answer x n size → (is_ok r ≡ false → k + 1 ≡ tries) → Through tries m n size bytes x
-  either tries lt (Ok _) i spent = done tries lt (ap is_ok (sym i))
-  either tries lt (Err _) i spent = last tries (spent refl)
+  ending : (tries : ℕ) → k < tries → (r : Result (Unit {0}) Fault) → r ≡ access_answer x n size → (is_ok r ≡ false → k + 1 ≡ tries) → Through tries m n size bytes x
+  ending tries lt r i last =
+      through tries
+      (level m n a.within tries k x bytes (fails (spent (block m n) k)) refl p lt
+      (λ t. last (ap is_ok (i ∙ low.answer_is ∙ ap (λ t. cond t (Err (failure (block m n))) (Ok tt)) t))))
 
 -- calls, told by `step`, that are each an access of block n of the disk in their state; `Keeps` tells what they all keep of
 -- the state, and `Leaves` what each changes
@@ -204,7 +195,7 @@ module _ {F : Type 0} {step : F → Result (Unit {0}) Fault → F → Type 0} (d
   ended tries {r} {left} t =
       let f = all_failed t.answers t.before t.failed in
       let e = each t.before r left f.0 t.last in
-      let u = either (disk start) n size (length t.answers) (bytes t.before) (disk t.before) a f.1 tries t.few r e.answer_is t.spent in
+      let u = ending (disk start) n size (length t.answers) (bytes t.before) (disk t.before) a f.1 tries t.few r e.answer_is t.spent in
       record {
         before = t.before;
         kept = f.0;

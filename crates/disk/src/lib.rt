@@ -1,6 +1,6 @@
 // Disks that are known by their blocks: images in memory, layers over any disk, the refusals that every part of the
 // lease manager answers with, and the guard that zeroes a lent area.
-#![tactic(auto)]
+#![tactic(auto, using(crate::proofs::Disks::disks))]
 
 mod device;
 mod fault;

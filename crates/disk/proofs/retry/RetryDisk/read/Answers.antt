@@ -2,26 +2,18 @@ use Rattle.std.proofs.Common.{◌≡◌, ℕ, List, length, sym, refl, ap, ◌�
 use Rattle.disk.specs.Model.{DiskModel, block, after_access, area_after_read}
 use Rattle.disk.specs.Layers.{retried}
 use Rattle.disk.specs.Bounds.{count_retried}
-use Rattle.disk.proofs.Accesses.{Admitted, admitted, refused}
+use Rattle.disk.proofs.Accesses.{Admitted, admitted}
 use Rattle.disk.proofs.Retries.{ended}
 use Rattle.disk.proofs.retry.RetryDisk.read.Given.{Over}
 use Rattle.disk.proofs.retry.RetryDisk.read.Goals as goal
 use Rattle.disk.proofs.retry.RetryDisk.read.Goals.{In_ok-admit_read}
-
-pub returns-in_err-admit_read : goal.returns-in_err-admit_read
-returns-in_err-admit_read g c =
-    let s = c.args.self.now in
-    let m = retried s.tries (g.D.Disk.meaning s.below) in
-    let n = c.args.number in
-    let r = refused m n (length c.args.area.now) c.count.ensures c.height.ensures (block m n).bytes c.in_err-admit_read.field-0.0 c.in_err-admit_read.ensures.admission in
-    search rules
 
 -- past the first test the area is one block long, and the block is there below
 there : (g : Over) (c : goal.In_ok-admit_read g) → Admitted (g.D.Disk.meaning c.args.self.now.below) c.args.number (length c.args.area.now)
 there g c =
     let s = c.args.self.now in
     let m = g.D.Disk.meaning s.below in
-    let a = admitted (retried s.tries m) c.args.number (length c.args.area.now) c.count.ensures c.height.ensures c.in_ok-admit_read.ensures.admission in
+    let a = admitted (retried s.tries m) c.args.number (length c.args.area.now) c.count.ensures c.in_ok-admit_read.ensures.admission in
     record { whole = a.whole; within = omega (arith, a.within, count_retried s.tries m) }
 
 -- the closure's state: the disk below, the number and the area; what the tries keep of it, and what each leaves in the area

@@ -2,26 +2,18 @@ use Rattle.std.proofs.Common.{◌≡◌, ℕ, List, length, sym, refl, ap, ◌�
 use Rattle.disk.specs.Model.{after_access}
 use Rattle.disk.specs.Layers.{retried}
 use Rattle.disk.specs.Bounds.{count_retried}
-use Rattle.disk.proofs.Accesses.{Admitted, admitted, refused}
+use Rattle.disk.proofs.Accesses.{Admitted, admitted}
 use Rattle.disk.proofs.Retries.{ended}
 use Rattle.disk.proofs.retry.RetryDisk.write.Given.{Over}
 use Rattle.disk.proofs.retry.RetryDisk.write.Goals as goal
 use Rattle.disk.proofs.retry.RetryDisk.write.Goals.{In_ok-admit}
-
-pub returns-in_err-admit : goal.returns-in_err-admit
-returns-in_err-admit g c =
-    let s = c.args.self.now in
-    let m = retried s.tries (g.D.Disk.meaning s.below) in
-    let area = c.args.area.now in
-    let r = refused m c.args.number (length area) c.count.ensures c.height.ensures area c.in_err-admit.field-0.0 c.in_err-admit.ensures in
-    search rules
 
 -- past the first test the area is one block long, and the block is there below
 there : (g : Over) (c : goal.In_ok-admit g) → Admitted (g.D.Disk.meaning c.args.self.now.below) c.args.number (length c.args.area.now)
 there g c =
     let s = c.args.self.now in
     let m = g.D.Disk.meaning s.below in
-    let a = admitted (retried s.tries m) c.args.number (length c.args.area.now) c.count.ensures c.height.ensures c.in_ok-admit.ensures in
+    let a = admitted (retried s.tries m) c.args.number (length c.args.area.now) c.count.ensures c.in_ok-admit.ensures in
     record { whole = a.whole; within = omega (arith, a.within, count_retried s.tries m) }
 
 -- the closure's state: the disk below, the number and the area; what the tries keep of it
