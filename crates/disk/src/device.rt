@@ -18,9 +18,6 @@ pub trait Disk {
     // What the disk holds or lies over and does not show as one of its blocks.
     ghost outside: { Self → Outside };
 
-    // Each kind of disk shows that its meaning keeps the bounds of height, count, block length and tallies.
-    ghost bounds: { (x : Self) → Bounds (meaning x) };
-
     // How many blocks there are.
     fn count(&self) -> usize
         ensures { result ≡ count_of (meaning self.now) };
@@ -41,9 +38,13 @@ pub trait Disk {
         ensures answer { result ≡ access_answer (meaning self.old) number (length area.now) }
         ensures disk { meaning self.new ≡ after_write (meaning self.old) number area.now }
         ensures outside { outside self.new ≡ outside self.old };
+
+    // A law: the meaning keeps the bounds of height, count, block length and tallies.
+    ghost bounds: { (x : Self) → Bounds (meaning x) };
 }
 
-// Refuses an access with an area that is not one block long, or of a block that is not there.
+// Refuses an access with an area that is not one block long, or of a block that is not there. It takes plain numbers and
+// no `&D`: a generic function may not be called on the disk in whose `impl` the call stands.
 pub(crate) fn admit(number: usize, size: usize, count: usize, height: u8) -> Result<(), Fault>
     ensures { Admission count height number size result }
 {

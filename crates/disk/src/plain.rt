@@ -38,8 +38,6 @@ impl Disk for PlainImage<'_> {
 
     ghost outside = { λ s. plain_outside s.bytes.now };
 
-    ghost bounds = { λ s. plain_bounds s.bytes.now };
-
     fn count(&self) -> usize {
         (self.bytes.len() / BLOCK_LENGTH).min(MOST_BLOCKS)
     }
@@ -60,4 +58,6 @@ impl Disk for PlainImage<'_> {
         self.bytes[start..start + BLOCK_LENGTH].copy_from_slice(area);
         Ok(())
     }
+
+    ghost bounds = { λ s. plain_bounds s.bytes.now };
 }
