@@ -68,8 +68,13 @@ pub(crate) fn zero_if_refused(answer: Result<(), Fault>, area: &mut [u8]) -> Res
     answer
 }
 
-// The same as `admit`, of a read.
-pub(crate) fn admit_read(number: usize, area: &mut [u8], count: usize, height: u8) -> Result<(), Fault>
+// The same of a read, which leaves the area all zero where it is refused.
+pub(crate) fn admit_read(
+    number: usize,
+    area: &mut [u8],
+    count: usize,
+    height: u8,
+) -> Result<(), Fault>
     ensures admission { Admission count height number (length area.old) result }
     ensures area { MatchResult result (λ _. area.new ≡ area.old) (λ _. area.new ≡ replicate (length area.old) 0) }
 {
