@@ -1,7 +1,7 @@
 // A queue of entries that fall due, over a lent list.
 #![tactic(auto)]
 
-ghost use Rattle.std.specs.Prelude.{◌≡◌, ℕ, ◌+◌, ◌-◌, ◌<◌, ◌≤◌, true, false, [], ◌∷◌, ◌++◌, length, take, drop};
+ghost use Rattle.std.specs.Prelude.{◌≡◌, ℕ, ◌+◌, ◌-◌, ◌<◌, ◌≤◌, true, false, [], ◌∷◌, ◌++◌, length, take, drop, OnSome};
 ghost use Rattle.std.specs.List.Sorted.{IsNonDecreasingBy, IsPartitionPoint};
 ghost use Rattle.queue.specs.Schedule.{by_tick};
 ghost use Rattle.queue.specs.Sorted.{push_answer, after_push, take_answer, after_take};
@@ -65,13 +65,12 @@ impl<'a, T: Copy + Due> Queue<'a, T> {
         ensures lent { self.new.list.ghost_name ≡ self.old.list.ghost_name }
         ensures law { PushLaw (by_tick T.Due.tick) (capacity self.old) entry (entries self.old) result (entries self.new) }
     {
-        let count = self.count;
-        if count == self.list.len() {
+        if self.count == self.list.len() {
             return Err(Refusal::QueueFull);
         }
         let at = self.place(&entry);
-        self.list[count] = entry;
-        self.list[at..=count].rotate_right(1);
+        self.list[self.count] = entry;
+        self.list[at..=self.count].rotate_right(1);
         self.count += 1;
         Ok(())
     }
@@ -83,6 +82,7 @@ impl<'a, T: Copy + Due> Queue<'a, T> {
         ensures after { entries self.new ≡ after_take (by_tick T.Due.tick) t (entries self.old) }
         ensures room { capacity self.new ≡ capacity self.old }
         ensures lent { self.new.list.ghost_name ≡ self.old.list.ghost_name }
+        ensures fewer { OnSome result (length (entries self.new) < length (entries self.old)) }
         ensures law { TakeLaw (by_tick T.Due.tick) t (entries self.old) result (entries self.new) }
     {
         let first = *self.entries().first()?;

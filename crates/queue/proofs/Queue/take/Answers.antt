@@ -1,11 +1,10 @@
 -- The queue is empty, or its first entry is not due, or it is handed out.
-use Rattle.std.proofs.Common.{◌≡◌, ◌+◌, ◌-◌, ◌++◌, take, drop, None, Some, sym, subst, arith}
+use Rattle.std.proofs.Common.{◌+◌, ◌-◌, ◌++◌, take, drop, None, Some, sym, subst, arith}
 use Rattle.std.specs.List.Sorted.{IsNonDecreasingBy}
 use Rattle.std.proofs.lemmas.List.{take-take}
 use Rattle.std.proofs.lemmas.List.Sorted.{IsNonDecreasingBy-take, IsNonDecreasingBy-drop}
 use Rattle.std.proofs.lemmas.Grind.{common_steps}
 use Rattle.queue.specs.Schedule.{by_tick}
-use Rattle.queue.specs.Sorted.{take_answer, after_take}
 use Rattle.queue.specs.Holdings.{entries}
 use Rattle.queue.proofs.Placing.{without_first}
 use Rattle.queue.proofs.Order.{by_tick_lawful, take_law}
@@ -24,24 +23,16 @@ invariant_of-self-2-clause-sorted g c =
 
 pub returns-in_err-first-clause-law : goal.returns-in_err-first-clause-law
 returns-in_err-first-clause-law g c =
-    let s = by_tick g.T.Due.tick in
-    let es = entries c.args.self.now in
-    let answer : c.from_residual.result ≡ take_answer s c.args.t es = grind (arith, common_steps) in
-    let after : es ≡ after_take s c.args.t es = grind (arith, common_steps) in
-    take_law s (by_tick_lawful g.T.Due.tick) c.args.t _ _ _ answer after
+    let q = c.args.self.now in
+    take_law (by_tick g.T.Due.tick) (by_tick_lawful g.T.Due.tick) c.args.t (entries q) c.from_residual.result (entries q) (grind (arith, common_steps)) (grind (arith, common_steps))
 
 pub returns-then-due-t-clause-law : goal.returns-then-due-t-clause-law
 returns-then-due-t-clause-law g c =
-    let s = by_tick g.T.Due.tick in
-    let es = entries c.args.self.now in
-    let answer : None ≡ take_answer s c.args.t es = grind (arith, common_steps) in
-    let after : es ≡ after_take s c.args.t es = grind (arith, common_steps) in
-    take_law s (by_tick_lawful g.T.Due.tick) c.args.t _ _ _ answer after
+    let q = c.args.self.now in
+    take_law (by_tick g.T.Due.tick) (by_tick_lawful g.T.Due.tick) c.args.t (entries q) None (entries q) (grind (arith, common_steps)) (grind (arith, common_steps))
 
 pub returns-clause-law : goal.returns-clause-law
 returns-clause-law g c =
-    let s = by_tick g.T.Due.tick in
     let q = c.args.self.now in
-    let answer : Some c.in_ok-first.field-0.now ≡ take_answer s c.args.t (entries q) = grind (arith, common_steps) in
-    let after : take (q.count - 1) (c.rotate_left.new.self ++ drop (q.count - 1 + 1) q.list.now) ≡ after_take s c.args.t (entries q) = grind (arith, common_steps) in
-    take_law s (by_tick_lawful g.T.Due.tick) c.args.t _ _ _ answer after
+    let left = take (q.count - 1) (c.rotate_left.new.self ++ drop (q.count - 1 + 1) q.list.now) in
+    take_law (by_tick g.T.Due.tick) (by_tick_lawful g.T.Due.tick) c.args.t (entries q) (Some c.in_ok-first.field-0.now) left (grind (arith, common_steps)) (grind (arith, common_steps))
