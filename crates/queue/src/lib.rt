@@ -1,7 +1,7 @@
 // A queue of entries that fall due, over a lent list.
 #![tactic(auto)]
 
-ghost use Rattle.std.specs.Prelude.{◌≡◌, ℕ, ◌+◌, ◌-◌, ◌<◌, ◌≤◌, true, false, [], ◌∷◌, ◌++◌, length, take, drop, OnSome};
+ghost use Rattle.std.specs.Prelude.{◌≡◌, ℕ, ◌<◌, ◌≤◌, true, false, [], length, take, OnSome};
 ghost use Rattle.std.specs.List.Sorted.{IsNonDecreasingBy, IsPartitionPoint};
 ghost use Rattle.queue.specs.Schedule.{by_tick};
 ghost use Rattle.queue.specs.Sorted.{push_answer, after_push, take_answer, after_take};
@@ -33,7 +33,8 @@ impl<T> Due for Deadline<T> {
     }
 }
 
-// The first `count` places of the list hold the entries, in the order in which they are handed out.
+// A queue over a list that the caller lends. The first `count` places hold the entries, in the order in which they are
+// handed out; what the others hold does not matter.
 #[derive(Drop)]
 pub struct Queue<'a, T: Due> {
     list: &'a mut [T],
