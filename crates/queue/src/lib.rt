@@ -18,6 +18,21 @@ pub trait Due {
         ensures { result ≡ tick self.now };
 }
 
+// What falls due at a tick.
+#[derive(Clone, Copy, PartialEq, Eq, Debug)]
+pub struct Deadline<T> {
+    pub tick: u32,
+    pub of: T,
+}
+
+impl<T> Due for Deadline<T> {
+    ghost tick = { λ d. d.tick };
+
+    fn due(&self) -> u32 {
+        self.tick
+    }
+}
+
 // The first `count` places of the list hold the entries, in the order in which they are handed out.
 #[derive(Drop)]
 pub struct Queue<'a, T> {
