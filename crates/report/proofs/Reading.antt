@@ -1,7 +1,6 @@
 -- Entries and offsets of which `==` says that they are the same.
-use Rattle.std.proofs.Common.{◌≡◌, ℕ, Bool, true, ◌&&◌, Decides, ℤ, eqb, eqb-true, int_eq, rules, refl, sym, subst, Ok, List}
-use Rattle.std.proofs.lemmas.Bool.{and_parts, eq-eqb}
-use Rattle.std.proofs.lemmas.Bool.Decides.{Decides-int_eq}
+use Rattle.std.proofs.Common.{◌≡◌, ℕ, Bool, ◌&&◌, Decides, ℤ, eqb, int_eq, rules, sym, subst, Ok, List, ◌∙◌}
+use Rattle.std.proofs.lemmas.Bool.Decides.{Decides-and, Decides-eqb, Decides-int_eq}
 use denote.Enum.Bare.{same_true, true_same, sameb}
 use Rattle.format.specs.contracts.events.Event.{the_type}
 use Rattle.format.specs.declared.events.LogEntry.{LogEntry}
@@ -11,41 +10,30 @@ abbrev tested : LogEntry → LogEntry → Bool
 tested e f =
     eqb e.tick.0 f.tick.0 && (sameb the_type e.event f.event && (eqb e.host f.host && (eqb e.resource f.resource && (eqb e.term f.term && eqb e.until.0 f.until.0))))
 
-same_entry : (e f : LogEntry) → tested e f ≡ true → e ≡ f
-same_entry e f same =
-    let a = and_parts (eqb e.tick.0 f.tick.0) _ same in
-    let b = and_parts (sameb the_type e.event f.event) _ a.1 in
-    let c = and_parts (eqb e.host f.host) _ b.1 in
-    let d = and_parts (eqb e.resource f.resource) _ c.1 in
-    let g = and_parts (eqb e.term f.term) _ d.1 in
-    let tick = eqb-true e.tick.0 f.tick.0 a.0 in
-    let event = same_true the_type (search rules) e.event f.event b.0 in
-    let host = eqb-true e.host f.host c.0 in
-    let resource = eqb-true e.resource f.resource d.0 in
-    let term = eqb-true e.term f.term g.0 in
-    let until = eqb-true e.until.0 f.until.0 g.1 in
-    λ i. record { tick = record { 0 = tick i }; event = event i; host = host i; resource = resource i; term = term i; until = record { 0 = until i } }
-
-both_true : (x y : Bool) → x ≡ true → y ≡ true → (x && y) ≡ true
-both_true x y p q = rw p q
-
-entry_tested : (e : LogEntry) → tested e e ≡ true
-entry_tested e =
-    both_true (eqb e.tick.0 e.tick.0) _ (eq-eqb _ _ refl)
-    (both_true (sameb the_type e.event e.event) _ (true_same the_type _ _ refl)
-    (both_true (eqb e.host e.host) _ (eq-eqb _ _ refl)
-    (both_true (eqb e.resource e.resource) _ (eq-eqb _ _ refl)
-    (both_true (eqb e.term e.term) _ (eq-eqb _ _ refl) (eq-eqb e.until.0 e.until.0 refl)))))
+same_entry : (e f : LogEntry) → Decides (tested e f) (e ≡ f)
+same_entry e f =
+    let fields =
+        Decides-and _ _ (Decides-eqb e.tick.0 f.tick.0)
+        (Decides-and _ _ (same_true the_type (search rules) e.event f.event, true_same the_type e.event f.event)
+        (Decides-and _ _ (Decides-eqb e.host f.host)
+        (Decides-and _ _ (Decides-eqb e.resource f.resource)
+        (Decides-and _ _ (Decides-eqb e.term f.term) (Decides-eqb e.until.0 f.until.0))))) in
+    (
+      λ all.
+        let s = fields.0 all in
+        λ i. record { tick = record { 0 = s.0 i }; event = s.1.0 i; host = s.1.1.0 i; resource = s.1.1.1.0 i; term = s.1.1.1.1.0 i; until = record { 0 = s.1.1.1.1.1 i } },
+      λ same. fields.1 (λ i. (same i).tick.0, (λ i. (same i).event, (λ i. (same i).host, (λ i. (same i).resource, (λ i. (same i).term, λ i. (same i).until.0))))),
+    )
 
 -- what was read is tested against an entry and an offset
-pub read_back : (line : List ℕ) (e f : LogEntry) (y z : ℤ) → ReadsLine line (Ok (f, y)) → Decides (tested f e && int_eq y z) (PrintsLine e z line)
-read_back line e f y z reads = (
-  λ same.
-      let parts = and_parts (tested f e) _ same in
-      let one = same_entry f e parts.0 in
-      let other = (Decides-int_eq y z).0 parts.1 in
-      subst (λ w. PrintsLine w z line) one (subst (λ w. PrintsLine f w line) other reads.0),
-  λ prints.
-      let equal = reads.1 e z prints in
-      both_true (tested f e) _ (rw equal.0 (entry_tested f)) ((Decides-int_eq y z).1 (sym equal.1)),
-)
+pub read_back : (line : List ℕ) (e f : LogEntry) (y x z : ℤ) → x ≡ z → ReadsLine line (Ok (f, y)) → Decides (tested f e && int_eq y x) (PrintsLine e z line)
+read_back line e f y x z plain reads =
+    let both = Decides-and _ _ (same_entry f e) (Decides-int_eq y x) in
+    (
+      λ all.
+        let s = both.0 all in
+        subst (λ w. PrintsLine w z line) s.0 (subst (λ w. PrintsLine f w line) (s.1 ∙ plain) reads.0),
+      λ prints.
+        let s = reads.1 e z prints in
+        both.1 (sym s.0, sym s.1 ∙ sym plain),
+    )

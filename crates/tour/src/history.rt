@@ -49,23 +49,21 @@ struct Deadlines<'a, 'q, R> {
 impl<'a, 'q, R: Print> Deadlines<'a, 'q, R> {
     // Puts a deadline into the queue.
     fn set(&mut self, tick: u32, host: u8) -> io::Result<()> {
-        let rt = self.rt;
         match self.queue.push(Deadline { tick, of: host }) {
-            Ok(()) => println!(rt; "deadline {tick} of host {host}: queued"),
-            Err(refusal) => println!(rt; "deadline {tick} of host {host}: refused {refusal}"),
+            Ok(()) => println!(self.rt; "deadline {tick} of host {host}: queued"),
+            Err(refusal) => println!(self.rt; "deadline {tick} of host {host}: refused {refusal}"),
         }
     }
 
     // Takes all deadlines that are due at a tick.
     fn drain(&mut self, tick: u32) -> io::Result<()> {
-        let rt = self.rt;
         while let Some(deadline) = self.queue.take(tick) {
-            println!(rt;
+            println!(self.rt;
                 "tick {tick}: deadline {} of host {}",
                 deadline.tick, deadline.of
             )?;
         }
-        println!(rt; "tick {tick}: no deadline is due")
+        println!(self.rt; "tick {tick}: no deadline is due")
     }
 }
 

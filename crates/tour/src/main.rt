@@ -64,9 +64,9 @@ impl<'a, R: Print, D: Disk> Tour<'a, R, D> {
         Ok(())
     }
 
+    // All steps on the disk, in their order.
     fn tell(&mut self) -> io::Result<()> {
-        let rt = self.rt;
-        println!(rt;
+        println!(self.rt;
             "retry 3 over span 2, 4 over an image of 16 blocks: {} blocks at height {}",
             self.disk.count(),
             self.disk.height()

@@ -2,7 +2,7 @@
 ghost use Rattle.std.specs.Prelude.{◌≡◌, count_by, nat_eq};
 
 use disk::{BLOCK_LENGTH, Fault, Tally};
-use format::{Kind, LeaseRecord, Mark};
+use format::{Kind, LeaseRecord};
 use std::io;
 
 // The bytes of a block that hold its record.
@@ -30,25 +30,15 @@ pub(crate) fn show_read(
     resource: usize,
     seen: Result<LeaseRecord, Fault>,
 ) -> io::Result<()> {
-    let LeaseRecord {
-        kind,
-        mark,
-        term,
-        ..
-    } = match seen {
-        Ok(lease) => lease,
-        Err(fault) => return println!(rt; "read {resource}: {fault}"),
-    };
-    let Mark {
-        owner,
-        generation,
-        stamp,
-    } = mark;
-    match kind {
-        Kind::Free => println!(rt; "read {resource}: free, term {term}"),
-        Kind::Owned => println!(rt;
-            "read {resource}: owned by host {owner}, generation {generation}, stamp {stamp}, term {term}"
-        ),
+    match seen {
+        Ok(lease) => match lease.kind {
+            Kind::Free => println!(rt; "read {resource}: free, term {}", lease.term),
+            Kind::Owned => println!(rt;
+                "read {resource}: owned by host {}, generation {}, stamp {}, term {}",
+                lease.mark.owner, lease.mark.generation, lease.mark.stamp, lease.term
+            ),
+        },
+        Err(fault) => println!(rt; "read {resource}: {fault}"),
     }
 }
 
