@@ -1,10 +1,10 @@
 -- The list that a queue keeps hands out in the order of its schedule, the earlier push first.
-use Rattle.std.proofs.Common.{◌≡◌, ℕ, suc, ◌+◌, Bool, true, false, cond, ltb, List, [], ◌∷◌, ◌++◌, length, Some, None, Ok, Err, fold, Option, Result, sym, refl, ap, ◌∙◌, subst, arith}
+use Rattle.std.proofs.Common.{◌≡◌, ℕ, suc, ◌+◌, Bool, true, false, cond, ltb, List, [], ◌∷◌, ◌++◌, length, Some, None, Ok, Err, fold, Option, Result, sym, refl, ap, ◌∙◌, subst, subst₂, arith}
 use Rattle.std.specs.List.{AllByRecursion}
 use Rattle.std.proofs.lemmas.List.{append-nil, append_assoc}
 use Rattle.std.proofs.ByRecursion.{All-append, All-push, All-weaker}
 use Rattle.std.proofs.lemmas.List.Sums.{fold_push}
-use Rattle.std.proofs.lemmas.Bool.{both_ways, cond_both, ltb-true, ltb-false}
+use Rattle.std.proofs.lemmas.Bool.{both_ways, cond_both, false_from_ne_true, ltb-true, ltb-false}
 use Rattle.std.proofs.lemmas.Bool.Decides.{nat_tests}
 use Rattle.disk.specs.declared.fault.Refusal.{Refusal}
 use Rattle.disk.specs.declared.fault.Refusal.TheVariants.{QueueFull}
@@ -25,11 +25,6 @@ by_tick_lawful tick =
       transitive = λ x y z h k. grind (arith, nat_tests);
       due_first = λ t x y h k. grind (arith, nat_tests);
     }
-
--- a test that cannot be true is false
-refuted : (b : Bool) → (b ≡ true → ⊥) → b ≡ false
-refuted true h = absurd (h refl)
-refuted false h = refl
 
 module _ {X : Type 0} (s : Schedule X) where
   pub queue_of_push : (waiting : List X) (e : X) → queue_of s (waiting ++ e ∷ []) ≡ placed s e (queue_of s waiting)
@@ -58,8 +53,7 @@ module _ {X : Type 0} (s : Schedule X) where
   pub push_law : (capacity : ℕ) (e : X) (xs : List X) (r : Result (Unit {0}) Refusal) (ys : List X)
       → r ≡ push_answer capacity xs → ys ≡ after_push s capacity e xs → PushLaw s capacity e xs r ys
   push_law capacity e xs r ys answer after =
-      subst (λ q. PushLaw s capacity e xs q ys) (sym answer)
-      (subst (λ zs. PushLaw s capacity e xs (push_answer capacity xs) zs) (sym after) (push_by_answer capacity e xs))
+      subst₂ (PushLaw s capacity e xs) (sym answer) (sym after) (push_by_answer capacity e xs)
 
   module _ (lawful : Lawful s) where
     -- what stands in front of the list is the first of those that wait, and the others make up the rest
@@ -67,18 +61,18 @@ module _ {X : Type 0} (s : Schedule X) where
     InFront waiting [] = waiting ≡ []
     InFront waiting (x ∷ rest) = (next : List X) × (First s waiting x next × (rest ≡ queue_of s next))
 
+    -- what holds of the first, and of all that come no earlier, holds of all that wait
+    of_all : (P : X → Type 0) (x : X) (waiting next : List X) → First s waiting x next → P x → ((y : X) → s.no_later x y ≡ true → P y) → AllByRecursion P waiting
+    of_all P x waiting next f first others =
+        subst (AllByRecursion P) (sym f.waits)
+        (All-append P f.before (x ∷ f.behind)
+        (All-weaker (λ y. s.no_later y x ≡ false) P (λ y k. others y (lawful.total y x k)) f.before f.later)
+        (first, All-weaker (λ y. s.no_later x y ≡ true) P others f.behind f.no_earlier))
+
     -- an entry that goes in front of the first is earlier than all
     earlier : (x e : X) (waiting next : List X) → s.no_later x e ≡ false → First s waiting x next → AllByRecursion (λ y. s.no_later y e ≡ false) waiting
     earlier x e waiting next h f =
-        let P : X → Type 0 = λ y. s.no_later y e ≡ false in
-        subst (AllByRecursion P) (sym f.waits)
-        (All-append P f.before (x ∷ f.behind)
-        (All-weaker (λ y. s.no_later y x ≡ false) P
-        (λ y k. refuted (s.no_later y e) (λ no. both_ways _ k (lawful.transitive y e x no (lawful.total x e h)))) f.before f.later) (
-          h,
-          All-weaker (λ y. s.no_later x y ≡ true) P
-              (λ y k. refuted (s.no_later y e) (λ no. both_ways _ h (lawful.transitive x y e k no))) f.behind f.no_earlier,
-        ))
+        of_all (λ y. s.no_later y e ≡ false) x waiting next f h (λ y k. false_from_ne_true _ (λ no. both_ways _ h (lawful.transitive x y e k no)))
 
     one_more : (waiting xs : List X) (e : X) → xs ≡ queue_of s waiting → InFront waiting xs → InFront (waiting ++ e ∷ []) (placed s e xs)
     unfolding InFront
@@ -114,15 +108,7 @@ module _ {X : Type 0} (s : Schedule X) where
     -- where the first is not due, none is
     none_due : (t : ℕ) (x : X) (waiting next : List X) → s.is_due t x ≡ false → First s waiting x next → AllByRecursion (λ y. s.is_due t y ≡ false) waiting
     none_due t x waiting next h f =
-        let P : X → Type 0 = λ y. s.is_due t y ≡ false in
-        subst (AllByRecursion P) (sym f.waits)
-        (All-append P f.before (x ∷ f.behind)
-        (All-weaker (λ y. s.no_later y x ≡ false) P
-        (λ y k. refuted (s.is_due t y) (λ due. both_ways _ h (lawful.due_first t x y (lawful.total y x k) due))) f.before f.later) (
-          h,
-          All-weaker (λ y. s.no_later x y ≡ true) P
-              (λ y k. refuted (s.is_due t y) (λ due. both_ways _ h (lawful.due_first t x y k due))) f.behind f.no_earlier,
-        ))
+        of_all (λ y. s.is_due t y ≡ false) x waiting next f h (λ y k. false_from_ne_true _ (λ due. both_ways _ h (lawful.due_first t x y k due)))
 
     by_front : (t : ℕ) (waiting xs : List X) → xs ≡ queue_of s waiting → InFront waiting xs
         → (next : List X) × (TakeOutcome s t waiting (take_answer s t xs) next × (after_take s t xs ≡ queue_of s next))
@@ -141,5 +127,4 @@ module _ {X : Type 0} (s : Schedule X) where
     -- a take, in terms of what waits
     pub take_law : (t : ℕ) (xs : List X) (r : Option X) (ys : List X) → r ≡ take_answer s t xs → ys ≡ after_take s t xs → TakeLaw s t xs r ys
     take_law t xs r ys answer after =
-        subst (λ q. TakeLaw s t xs q ys) (sym answer)
-        (subst (λ zs. TakeLaw s t xs (take_answer s t xs) zs) (sym after) (take_by_answer t xs))
+        subst₂ (TakeLaw s t xs) (sym answer) (sym after) (take_by_answer t xs)

@@ -1,98 +1,56 @@
--- How the places of the lent list make up the entries, for any schedule.
-use Rattle.std.proofs.Common.{◌≡◌, ℕ, zero, suc, ◌<◌, ◌≤◌, min, Bool, true, false, cond, ltb, List, [], ◌∷◌, ◌++◌, length, get_or, take, drop, Some, None, Ok, Err, sym, refl, ap, ◌∙◌, subst, inl, inr, arith}
-use Rattle.std.proofs.lemmas.List.{take_all, length-take}
-use Rattle.std.proofs.lemmas.Bool.{cases_lt, lt-ltb, le-ltb, cond-true, cond-false}
-use Rattle.disk.specs.declared.fault.Refusal.TheVariants.{QueueFull}
-use Rattle.queue.specs.Schedule.{Schedule}
-use Rattle.queue.specs.Sorted.{placed, Place, push_answer, after_push, take_answer, after_take}
+-- Where an entry goes in the lent list, for any schedule.
+use Rattle.std.proofs.Common.{◌≡◌, ℕ, zero, suc, ◌+◌, ◌-◌, ◌<◌, ◌≤◌, true, false, List, [], ◌∷◌, ◌++◌, length, take, drop, set, Some, refl, sym, ap, ap₂, ◌∙◌, arith}
+use Rattle.std.specs.List.{insert}
+use Rattle.std.specs.List.Sorted.{IsPartitionPoint, IsNonDecreasingBy}
+use Rattle.std.proofs.lemmas.List.{take_more_set, take-set-le, take-take, take_at, drop_at, drop-append-le, append_assoc, length-append, length-drop, length-take, length-set}
+use Rattle.std.proofs.lemmas.List.Sorted.{IsNonDecreasingBy-insert}
+use Rattle.std.proofs.lemmas.Slice.{between_is, take-put_mid}
+use Rattle.std.proofs.lemmas.Bool.{cond-true}
+use Rattle.std.proofs.lemmas.Bool.Decides.{nat_tests}
+use Rattle.queue.specs.Schedule.{Schedule, by_tick}
+use Rattle.queue.specs.Sorted.{placed, take_answer, after_take}
 
--- a front no longer than the list
-pub take_least : {X : Type 0} (n m : ℕ) (xs : List X) → m ≡ min n (length xs) → take n xs ≡ take m xs
-take_least n m xs e =
-    elim (cases_lt n (length xs)) [
-      | inl h ↦ ap (λ k. take k xs) (omega arith)
-      | inr h ↦ take_all n xs h ∙ sym (take_all m xs (omega arith))
-    ]
+-- an entry that goes to the partition point of the list is placed
+pub placed_at : {X : Type 0} (s : Schedule X) (e : X) (xs : List X) (i : ℕ) → i ≤ length xs
+    → IsPartitionPoint (λ y. s.no_later y e ≡ true) (λ y. s.no_later y e ≡ false) xs i → insert xs i e ≡ placed s e xs
+placed_at s e [] i within p = grind arith
+placed_at s e (x ∷ xs) zero within p = grind (arith, p.1 0 x)
+placed_at s e (x ∷ xs) (suc i) within p =
+    ap (λ zs. x ∷ zs) (placed_at s e xs i (omega arith) ((λ k d l h. p.0 (suc k) d (omega arith) (omega arith)), (λ k d l h. p.1 (suc k) d (omega arith) (omega arith))))
+    ∙ sym (cond-true _ _ _ (p.0 0 x (omega arith) (omega arith)))
 
-full : {X : Type 0} (n : ℕ) (xs : List X) → length xs ≤ n → ltb (length (take n xs)) (length xs) ≡ false
-full n xs h = le-ltb _ _ (let e = ap length (take_all n xs h) in omega arith)
+-- and the list stays in the order of the ticks
+pub stays_sorted : {X : Type 0} (tick : X → ℕ) (e : X) (xs : List X) (i : ℕ) → IsNonDecreasingBy tick xs → i ≤ length xs
+    → IsPartitionPoint (λ y. (by_tick tick).no_later y e ≡ true) (λ y. (by_tick tick).no_later y e ≡ false) xs i → IsNonDecreasingBy tick (insert xs i e)
+stays_sorted tick e xs i sorted within p =
+    IsNonDecreasingBy-insert tick xs i e sorted within (λ k d h. grind (arith, nat_tests, p.0 k d)) (λ k d l h. grind (arith, nat_tests, p.1 k d))
 
-room : {X : Type 0} (n : ℕ) (xs : List X) → n < length xs → ltb (length (take n xs)) (length xs) ≡ true
-room n xs h = lt-ltb _ _ (let e = length-take n xs in omega arith)
+-- the last of a list, brought to the front
+turned : {X : Type 0} (ms : List X) (e : X) → (let all = ms ++ e ∷ [] in drop (length all - 1) all ++ take (length all - 1) all) ≡ e ∷ ms
+turned ms e =
+    let long : length (ms ++ e ∷ []) - 1 ≡ length ms = omega (arith, length-append ms (e ∷ [])) in
+    rw long (ap₂ ◌++◌ (drop_at ms (e ∷ []) (length ms) refl) (take_at ms (e ∷ []) (length ms) refl))
 
-module _ {X : Type 0} (s : Schedule X) where
-  -- an entry that goes to its place is placed
-  pub placed_at : (e : X) (xs : List X) (i : ℕ) → Place s e xs i → placed s e xs ≡ take i xs ++ e ∷ drop i xs
-  placed_at e [] zero p = refl
-  placed_at e [] (suc i) p = refl
-  placed_at e (x ∷ xs) zero p = cond-false _ _ _ (p.2 x (omega arith))
-  placed_at e (x ∷ xs) (suc i) p =
-      cond-true _ _ _ (p.1 0 x (omega arith))
-      ∙ ap (λ zs. x ∷ zs) (placed_at e xs i ((omega arith), (λ k d h. p.1 (suc k) d (omega arith)), (λ d h. p.2 d (omega arith))))
+-- an entry that is written behind the first n and then brought to place i among them
+pub brought : {X : Type 0} (xs ys : List X) (i n : ℕ) (e : X) → i ≤ length (take n xs) → n < length xs
+    → (let mid = take (n + 1 - i) (drop i (set xs n e)) in ys ≡ drop (length mid - 1) mid ++ take (length mid - 1) mid)
+    → take (n + 1) (take i (set xs n e) ++ (ys ++ drop (n + 1 - i) (drop i (set xs n e)))) ≡ insert (take n xs) i e
+brought xs ys i n e within room after =
+    let low : i ≤ n = omega (arith, length-take n xs) in
+    let mid = between_is (set xs n e) i (n + 1) ∙ ap (drop i) (take_more_set xs n e room) ∙ drop-append-le i (take n xs) (e ∷ []) within in
+    let front = after ∙ ap (λ ms. drop (length ms - 1) ms ++ take (length ms - 1) ms) mid ∙ turned (drop i (take n xs)) e in
+    take-put_mid i (n + 1 - i) (set xs n e) ys (n + 1) (omega (arith, ap length front, length-drop i (take n xs), length-take n xs)) (omega (arith, length-set xs n e))
+    ∙ ap₂ ◌++◌ (take-set-le i xs n e low ∙ sym (take-take i n xs low)) front
 
-  -- the same, where the place was found among the first m entries
-  pub placed_by : (e : X) (n m : ℕ) (xs : List X) (i : ℕ) → m ≡ n → Place s e (take m xs) i
-      → take i (take n xs) ++ e ∷ drop i (take n xs) ≡ placed s e (take n xs)
-  placed_by e n m xs i long p = sym (placed_at e (take n xs) i (subst (λ k. Place s e (take k xs) i) long p))
-
-  -- the list is full
-  pub full_answer : (n : ℕ) (xs : List X) → length xs ≤ n → Err QueueFull ≡ push_answer (length xs) (take n xs)
-  full_answer n xs h = sym (cond-false _ _ _ (full n xs h))
-
-  pub full_after : (e : X) (n : ℕ) (xs : List X) → length xs ≤ n → take n xs ≡ after_push s (length xs) e (take n xs)
-  full_after e n xs h = sym (cond-false _ _ _ (full n xs h))
-
-  -- it has room behind its first n entries
-  pub room_answer : (n : ℕ) (xs : List X) → n < length xs → Ok tt ≡ push_answer (length xs) (take n xs)
-  room_answer n xs h = sym (cond-true _ _ _ (room n xs h))
-
-  pub room_after : (e : X) (n : ℕ) (xs ys : List X) → n < length xs → ys ≡ placed s e (take n xs) → ys ≡ after_push s (length xs) e (take n xs)
-  room_after e n xs ys h holds = holds ∙ sym (cond-true _ _ _ (room n xs h))
-
-  -- of an empty queue nothing is handed out
-  pub none_answer : (t n : ℕ) (xs : List X) → min n (length xs) ≡ 0 → None ≡ take_answer s t (take n xs)
-  none_answer t zero xs h = refl
-  none_answer t (suc n) [] h = refl
-  none_answer t (suc n) (x ∷ xs) h = absurd (omega arith)
-
-  pub none_after : (t n : ℕ) (xs : List X) → min n (length xs) ≡ 0 → take n xs ≡ after_take s t (take n xs)
-  none_after t zero xs h = refl
-  none_after t (suc n) [] h = refl
-  none_after t (suc n) (x ∷ xs) h = absurd (omega arith)
-
-  -- the first entry is not due
-  pub early_answer : (t n : ℕ) (xs : List X) (d : X) → s.is_due t (get_or xs 0 d) ≡ false → None ≡ take_answer s t (take n xs)
-  early_answer t zero xs d early = refl
-  early_answer t (suc n) [] d early = refl
-  early_answer t (suc n) (x ∷ xs) d early = sym (cond-false _ _ _ early)
-
-  pub early_after : (t n : ℕ) (xs : List X) (d : X) → s.is_due t (get_or xs 0 d) ≡ false → take n xs ≡ after_take s t (take n xs)
-  early_after t zero xs d early = refl
-  early_after t (suc n) [] d early = refl
-  early_after t (suc n) (x ∷ xs) d early = sym (cond-false _ _ _ early)
-
--- the first of a front is the first of the list
-first_of : {X : Type 0} (m : ℕ) (xs : List X) (r d : X) (rest : List X) → take m xs ≡ r ∷ rest → get_or xs 0 d ≡ r
-first_of zero xs r d rest e = absurd (let z : ◌≡◌ {A = ℕ} 0 (suc (length rest)) = ap length e in omega arith)
-first_of (suc m) [] r d rest e = absurd (let z : ◌≡◌ {A = ℕ} 0 (suc (length rest)) = ap length e in omega arith)
-first_of (suc m) (x ∷ xs) r d rest e = cc
-
--- the first entry is due
-module _ {X : Type 0} (s : Schedule X) (t n m : ℕ) (xs : List X) (r d : X) (rest : List X) (least : m ≡ min n (length xs)) (front : take m xs ≡ r ∷ rest) (due : s.is_due t (get_or xs 0 d) ≡ true) where
-  now_due : s.is_due t r ≡ true
-  now_due = ap (s.is_due t) (sym (first_of m xs r d rest front)) ∙ due
-
-  pub due_answer : Some r ≡ take_answer s t (take n xs)
-  due_answer = sym (ap (take_answer s t) (take_least n m xs least ∙ front) ∙ cond-true _ _ _ now_due)
-
-  pub due_after : rest ≡ after_take s t (take n xs)
-  due_after = sym (ap (after_take s t) (take_least n m xs least ∙ front) ∙ cond-true _ _ _ now_due)
+-- the first of n entries brought behind the others, which are then the first m
+pub without_first : {X : Type 0} (xs ys : List X) (m n : ℕ) → m + 1 ≡ n → n ≤ length xs → ys ≡ drop 1 (take (m + 1) xs) ++ take 1 (take (m + 1) xs)
+    → take m (ys ++ drop (m + 1) xs) ≡ drop 1 (take n xs)
+without_first xs ys m n one room after =
+    let rest = drop 1 (take (m + 1) xs) in
+    let long : length rest ≡ m = omega (arith, length-drop 1 (take (m + 1) xs), length-take (m + 1) xs) in
+    ap (λ zs. take m (zs ++ drop (m + 1) xs)) after ∙ ap (take m) (append_assoc rest _ _) ∙ take_at rest _ m long ∙ ap (λ k. drop 1 (take k xs)) one
 
 -- a take that hands out an entry leaves fewer
 pub taken_shrinks : {X : Type 0} (s : Schedule X) (t : ℕ) (xs : List X) (x : X) → Some x ≡ take_answer s t xs → length (after_take s t xs) < length xs
-taken_shrinks s t [] x e = absurd (let z : ◌≡◌ {A = ℕ} 0 1 = cc in omega arith)
-taken_shrinks s t (y ∷ ys) x e = shrinks (s.is_due t y) e
-  where
-    shrinks : (b : Bool) → Some x ≡ cond b (Some y) None → length (cond b ys (y ∷ ys)) < length (y ∷ ys)
-    shrinks true e = omega arith
-    shrinks false e = absurd (let z : ◌≡◌ {A = ℕ} 0 1 = cc in omega arith)
+taken_shrinks s t [] x e = grind arith
+taken_shrinks s t (y ∷ ys) x e = grind arith

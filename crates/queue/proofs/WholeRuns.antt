@@ -1,8 +1,8 @@
 -- Over every run the answers are those that the waiting entries call for, and no entry is lost or handed out twice.
-use Rattle.std.proofs.Common.{◌≡◌, ℕ, Bool, true, false, cond, ltb, List, [], ◌∷◌, ◌++◌, length, Some, None, Ok, Err, sym, refl, subst, arith}
+use Rattle.std.proofs.Common.{◌≡◌, ℕ, Bool, true, false, cond, ltb, List, [], ◌∷◌, ◌++◌, length, Some, None, Ok, Err, sym, refl, subst}
 use Rattle.std.specs.List.Sorted.{IsPermutation}
 use Rattle.std.proofs.lemmas.List.{append-nil}
-use Rattle.std.proofs.lemmas.List.Sorted.{IsPermutation-refl, IsPermutation-cons, IsPermutation-swap, IsPermutation-trans}
+use Rattle.std.proofs.lemmas.List.Sorted.{IsPermutation-refl, IsPermutation-cons, IsPermutation-middle, IsPermutation-trans}
 use Rattle.std.proofs.lemmas.Bool.{cond_both}
 use Rattle.disk.specs.declared.fault.Refusal.TheVariants.{QueueFull}
 use Rattle.queue.specs.Schedule.{Schedule}
@@ -11,19 +11,12 @@ use Rattle.queue.specs.Waiting.{queue_of}
 use Rattle.queue.specs.Runs.{Action, Event, push_of, take_at, pushed, taken, event, after, events, after_run, accepted, handed_out, Outcome, Outcomes, RunLaw}
 use Rattle.queue.proofs.Order.{Lawful, push_law, take_law}
 
--- an entry behind some others, brought in front of them
-to_front : {X : Type 0} (e : X) (xs zs : List X) → IsPermutation (xs ++ e ∷ zs) (e ∷ (xs ++ zs))
-to_front e [] zs = IsPermutation-refl (e ∷ zs)
-to_front e (x ∷ xs) zs =
-    IsPermutation-trans (x ∷ (xs ++ e ∷ zs)) (x ∷ e ∷ (xs ++ zs)) (e ∷ x ∷ (xs ++ zs)) (IsPermutation-cons x (xs ++ e ∷ zs) (e ∷ (xs ++ zs)) (to_front e xs zs))
-    (IsPermutation-swap (x ∷ e ∷ (xs ++ zs)) (e ∷ x ∷ (xs ++ zs)) 0 1 (omega arith) (omega arith) refl)
-
 module _ {X : Type 0} (s : Schedule X) (capacity : ℕ) where
   to_place : (e : X) (xs zs : List X) → IsPermutation (xs ++ e ∷ zs) (placed s e xs ++ zs)
   to_place e [] zs = IsPermutation-refl (e ∷ zs)
   to_place e (x ∷ xs) zs =
       cond_both (s.no_later x e) (x ∷ placed s e xs) (e ∷ x ∷ xs) (λ ys. IsPermutation (x ∷ (xs ++ e ∷ zs)) (ys ++ zs))
-      (λ _. IsPermutation-cons x (xs ++ e ∷ zs) (placed s e xs ++ zs) (to_place e xs zs)) (λ _. to_front e (x ∷ xs) zs)
+      (λ _. IsPermutation-cons x (xs ++ e ∷ zs) (placed s e xs ++ zs) (to_place e xs zs)) (λ _. IsPermutation-middle (x ∷ xs) e zs)
 
   -- what the list held and what was accepted is what was handed out and what the list holds
   abbrev Keeps : List (Action X) → List X → Type 0

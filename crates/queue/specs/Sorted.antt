@@ -1,5 +1,5 @@
 -- The list that a queue keeps, in the order of handing out.
-use Rattle.std.specs.Prelude.{◌≡◌, ℕ, ◌<◌, ◌≤◌, true, false, cond, List, [], ◌∷◌, length, Some, None, Ok, Err, Option, Result, nat_lt, slice_index_or}
+use Rattle.std.specs.Prelude.{ℕ, cond, List, [], ◌∷◌, length, Some, None, Ok, Err, Option, Result, nat_lt}
 use Rattle.disk.specs.declared.fault.Refusal.{Refusal}
 use Rattle.disk.specs.declared.fault.Refusal.TheVariants.{QueueFull}
 use Rattle.queue.specs.Schedule.{Schedule}
@@ -8,13 +8,6 @@ use Rattle.queue.specs.Schedule.{Schedule}
 abbrev pub placed : {X : Type 0} → Schedule X → X → List X → List X
 placed s e [] = e ∷ []
 placed s e (x ∷ xs) = cond (s.no_later x e) (x ∷ placed s e xs) (e ∷ x ∷ xs)
-
--- i is that place
-abbrev pub Place : {X : Type 0} → Schedule X → X → List X → ℕ → Type 0
-Place {X} s e xs i =
-    (i ≤ length xs)
-    × ((k : ℕ) (d : X) → k < i → s.no_later (slice_index_or xs k d) e ≡ true)
-    × ((d : X) → i < length xs → s.no_later (slice_index_or xs i d) e ≡ false)
 
 -- a push is refused where the list is full
 abbrev pub push_answer : {X : Type 0} → ℕ → List X → Result (Unit {0}) Refusal

@@ -1,33 +1,38 @@
 -- The queue is empty, or its first entry is not due, or it is handed out.
-use Rattle.std.proofs.Common.{◌≡◌, min, true, false, length, get_or, sym, refl, arith, rules}
+use Rattle.std.proofs.Common.{◌+◌, ◌-◌, ◌++◌, take, drop, None, Some, sym, subst, arith}
+use Rattle.std.specs.List.Sorted.{IsNonDecreasingBy}
+use Rattle.std.proofs.lemmas.List.{take-take}
+use Rattle.std.proofs.lemmas.List.Sorted.{IsNonDecreasingBy-take, IsNonDecreasingBy-drop}
+use Rattle.std.proofs.lemmas.Grind.{common_steps}
 use Rattle.queue.specs.Schedule.{by_tick}
-use Rattle.queue.proofs.Placing.{none_answer, none_after, early_answer, early_after, due_answer, due_after}
+use Rattle.queue.specs.Holdings.{entries}
+use Rattle.queue.proofs.Placing.{without_first}
 use Rattle.queue.proofs.Order.{by_tick_lawful, take_law}
 use Rattle.queue.proofs.Queue.take.Goals as goal
 
-pub returns-then-count-eq0 : goal.returns-then-count-eq0
-returns-then-count-eq0 g c =
-    let s = by_tick g.T.Due.tick in
-    let xs = c.args.self.now.list.now in
-    let none : min c.args.self.now.count (length xs) ≡ 0 = omega arith in
-    let answer = none_answer s c.args.t c.args.self.now.count xs none in
-    let after = none_after s c.args.t c.args.self.now.count xs none in
-    record { answer = answer; after = after; room = search rules; lent = search rules; law = take_law s (by_tick_lawful g.T.Due.tick) c.args.t _ _ _ answer after }
+pub invariant_of-self-clause-sorted : goal.invariant_of-self-clause-sorted
+invariant_of-self-clause-sorted g c =
+    let q = c.args.self.now in
+    subst (IsNonDecreasingBy g.T.Due.tick) (take-take (q.count - 1) q.count q.list.now (omega arith)) (IsNonDecreasingBy-take g.T.Due.tick _ _ q.sorted)
 
-pub returns-then-not-is_due : goal.returns-then-not-is_due
-returns-then-not-is_due g c =
-    let s = by_tick g.T.Due.tick in
-    let xs = c.args.self.now.list.now in
-    let early : s.is_due c.args.t (get_or xs 0 c.index-self-0.result) ≡ false = sym c.if-not-is_due.ensures in
-    let answer = early_answer s c.args.t c.args.self.now.count xs c.index-self-0.result early in
-    let after = early_after s c.args.t c.args.self.now.count xs c.index-self-0.result early in
-    record { answer = answer; after = after; room = search rules; lent = search rules; law = take_law s (by_tick_lawful g.T.Due.tick) c.args.t _ _ _ answer after }
+pub invariant_of-self-2-clause-sorted : goal.invariant_of-self-2-clause-sorted
+invariant_of-self-2-clause-sorted g c =
+    let q = c.args.self.now in
+    let rest = without_first q.list.now c.rotate_left.new.self (q.count - 1) q.count (grind (arith, common_steps)) (omega arith) c.rotate_left.ensures.after in
+    subst (IsNonDecreasingBy g.T.Due.tick) (sym rest) (IsNonDecreasingBy-drop g.T.Due.tick 1 _ q.sorted)
 
-pub returns : goal.returns
-returns g c =
-    let s = by_tick g.T.Due.tick in
-    let xs = c.args.self.now.list.now in
-    let due : s.is_due c.args.t (get_or xs 0 c.index-self-0.result) ≡ true = sym c.if-not-is_due.ensures in
-    let answer = due_answer s c.args.t c.args.self.now.count _ xs _ c.index-self-0.result _ c.min-count.ensures c.remove_first.ensures due in
-    let after = due_after s c.args.t c.args.self.now.count _ xs _ c.index-self-0.result _ c.min-count.ensures c.remove_first.ensures due in
-    record { answer = answer; after = after; room = search rules; lent = refl; law = take_law s (by_tick_lawful g.T.Due.tick) c.args.t _ _ _ answer after }
+pub returns-in_err-first-clause-law : goal.returns-in_err-first-clause-law
+returns-in_err-first-clause-law g c =
+    let q = c.args.self.now in
+    take_law (by_tick g.T.Due.tick) (by_tick_lawful g.T.Due.tick) c.args.t (entries q) c.from_residual.result (entries q) (grind (arith, common_steps)) (grind (arith, common_steps))
+
+pub returns-then-due-t-clause-law : goal.returns-then-due-t-clause-law
+returns-then-due-t-clause-law g c =
+    let q = c.args.self.now in
+    take_law (by_tick g.T.Due.tick) (by_tick_lawful g.T.Due.tick) c.args.t (entries q) None (entries q) (grind (arith, common_steps)) (grind (arith, common_steps))
+
+pub returns-clause-law : goal.returns-clause-law
+returns-clause-law g c =
+    let q = c.args.self.now in
+    let left = take (q.count - 1) (c.rotate_left.new.self ++ drop (q.count - 1 + 1) q.list.now) in
+    take_law (by_tick g.T.Due.tick) (by_tick_lawful g.T.Due.tick) c.args.t (entries q) (Some c.in_ok-first.field-0.now) left (grind (arith, common_steps)) (grind (arith, common_steps))
