@@ -1,5 +1,6 @@
--- The number of each refusal, as it is reported.
-use Rattle.std.specs.Prelude.{ℕ}
+-- The number of each refusal, as it is reported, and how a fault prints.
+use Rattle.std.specs.Prelude.{ℕ, List, ◌++◌, codes, decimal}
+use Rattle.disk.specs.declared.fault.Fault.{Fault}
 use Rattle.disk.specs.declared.fault.Refusal.{Refusal}
 use Rattle.disk.specs.declared.fault.Refusal.TheVariants.{WrongLength, NoSuchBlock, AccessFailed, NotARecord, NotOpen, NoSuchHostOrResource, HostDown, WrongSeat, Early, Late, NotLanded, FlightFull, NumberSpent, NoSuchWrite, BadValue, LogFull, BufferShort, NotALine, QueueFull}
 
@@ -23,3 +24,8 @@ refusal_number LogFull = 16
 refusal_number BufferShort = 17
 refusal_number NotALine = 18
 refusal_number QueueFull = 19
+
+-- as `refused 3, block 5, height 0`
+abbrev pub fault_text : Fault → List ℕ
+fault_text x =
+    codes "refused " ++ (decimal (refusal_number x.cause) ++ (codes ", block " ++ (decimal x.number ++ (codes ", height " ++ decimal x.height))))

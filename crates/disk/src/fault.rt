@@ -1,6 +1,9 @@
 // Why a call is refused, and where.
-ghost use Rattle.std.specs.Prelude.{◌≡◌};
-ghost use Rattle.disk.specs.Refusals.{refusal_number};
+ghost use Rattle.std.specs.Prelude.{◌≡◌, Some, decimal};
+ghost use Rattle.disk.specs.Refusals.{refusal_number, fault_text};
+
+use std::error::Error;
+use std::fmt;
 
 // Every cause of a refusal, with the number by which it is reported.
 #[derive(Clone, Copy, PartialEq, Eq, Debug)]
@@ -71,3 +74,29 @@ impl Refusal {
         }
     }
 }
+
+// A refusal prints as its number.
+impl fmt::Display for Refusal {
+    ghost output = { λ r. Some (decimal (refusal_number r)) };
+
+    fn fmt<W: fmt::Write>(&self, f: &mut fmt::Formatter<W>) -> fmt::Result {
+        write!(f, "{}", self.number())
+    }
+}
+
+impl Error for Refusal {}
+
+// A fault prints as its refusal, its block and its height.
+impl fmt::Display for Fault {
+    ghost output = { λ x. Some (fault_text x) };
+
+    fn fmt<W: fmt::Write>(&self, f: &mut fmt::Formatter<W>) -> fmt::Result {
+        write!(
+            f,
+            "refused {}, block {}, height {}",
+            self.cause, self.number, self.height
+        )
+    }
+}
+
+impl Error for Fault {}

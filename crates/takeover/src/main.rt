@@ -5,18 +5,15 @@
 
 ghost use Rattle.std.specs.Prelude.{◌≡◌};
 
-mod deadline;
 mod show;
 mod step;
 
 use board::WriteName;
-use deadline::Deadline;
 use disk::{BLOCK_LENGTH, Disk, Retry, Span, Tally, TiredImage};
 use format::{Event, LogEntry, Tick};
 use machine::Settings;
-use queue::Queue;
+use queue::{Deadline, Queue};
 use room::{Call, Room};
-use show::show_log;
 use std::io;
 use step::{RESOURCE, Stage};
 
@@ -47,76 +44,60 @@ fn write_of(owner: usize, stamp: usize) -> WriteName
 }
 
 // Host 0 claims the free resource and is granted it.
-fn claim<D: Disk>(
-    rt: &impl Print,
-    stage: &mut Stage<D>,
-    deadlines: &mut Queue<Deadline>,
-) -> io::Result<()> {
+fn claim<R: Print, D: Disk>(stage: &mut Stage<R, D>) -> io::Result<()> {
     let host = FIRST;
     let resource = RESOURCE;
     stage.make(
-        rt,
         "host 0 sets its clock",
         Call::SetClock { host, offset: -250 },
     )?;
-    stage.make(rt, "the room opens", Call::Open)?;
-    stage.make(rt, "host 0 tries", Call::Try { host, resource })?;
-    stage.pass(rt, 3, deadlines)?;
-    stage.make(rt, "its claim lands", Call::Land(write_of(host, 1)))?;
-    stage.pass(rt, 17, deadlines)?;
-    stage.check(rt, "host 0 checks", host, deadlines)?;
-    stage.pass(rt, 1, deadlines)?;
-    stage.check(rt, "host 0 checks", host, deadlines)?;
-    stage.sign(rt, "host 0 signs", host)
+    stage.make("the room opens", Call::Open)?;
+    stage.make("host 0 tries", Call::Try { host, resource })?;
+    stage.pass(3)?;
+    stage.make("its claim lands", Call::Land(write_of(host, 1)))?;
+    stage.pass(17)?;
+    stage.check("host 0 checks", host)?;
+    stage.pass(1)?;
+    stage.check("host 0 checks", host)?;
+    stage.sign("host 0 signs", host)
 }
 
 // Host 0 asks for more time while host 1 begins to watch; one of its writes is lost, the other is late.
-fn hold<D: Disk>(
-    rt: &impl Print,
-    stage: &mut Stage<D>,
-    deadlines: &mut Queue<Deadline>,
-) -> io::Result<()> {
+fn hold<R: Print, D: Disk>(stage: &mut Stage<R, D>) -> io::Result<()> {
     let host = FIRST;
     let resource = RESOURCE;
     let watcher = Call::Try {
         host: SECOND,
         resource,
     };
-    stage.make(rt, "host 1 tries", watcher)?;
-    stage.make(rt, "host 0 renews", Call::Renew { host, resource })?;
-    stage.pass(rt, 2, deadlines)?;
-    stage.make(rt, "its renewal is lost", Call::Lose(write_of(host, 2)))?;
-    stage.make(rt, "host 0 confirms", Call::Confirm { host, resource })?;
-    stage.pass(rt, 15, deadlines)?;
-    stage.make(rt, "host 0 renews again", Call::Renew { host, resource })?;
-    stage.sign(rt, "host 0 signs", host)?;
-    stage.pass(rt, 2, deadlines)?;
-    stage.sign(rt, "host 0 signs", host)
+    stage.make("host 1 tries", watcher)?;
+    stage.make("host 0 renews", Call::Renew { host, resource })?;
+    stage.pass(2)?;
+    stage.make("its renewal is lost", Call::Lose(write_of(host, 2)))?;
+    stage.make("host 0 confirms", Call::Confirm { host, resource })?;
+    stage.pass(15)?;
+    stage.make("host 0 renews again", Call::Renew { host, resource })?;
+    stage.sign("host 0 signs", host)?;
+    stage.pass(2)?;
+    stage.sign("host 0 signs", host)
 }
 
 // Host 1 has watched for a lease, claims and is granted; the late write of host 0 finds no way any more.
-fn take_over<D: Disk>(
-    rt: &impl Print,
-    stage: &mut Stage<D>,
-    deadlines: &mut Queue<Deadline>,
-) -> io::Result<()> {
+fn take_over<R: Print, D: Disk>(stage: &mut Stage<R, D>) -> io::Result<()> {
     let host = SECOND;
     let resource = RESOURCE;
-    stage.pass(rt, 20, deadlines)?;
-    stage.make(rt, "host 1 tries", Call::Try { host, resource })?;
-    stage.pass(rt, 1, deadlines)?;
-    stage.make(rt, "host 1 tries", Call::Try { host, resource })?;
-    stage.pass(rt, 1, deadlines)?;
-    stage.make(rt, "its claim lands", Call::Land(write_of(host, 1)))?;
-    stage.pass(rt, 20, deadlines)?;
-    stage.check(rt, "host 1 checks", host, deadlines)?;
-    stage.make(
-        rt,
-        "the late renewal of host 0 lands",
-        Call::Land(write_of(FIRST, 3)),
-    )?;
-    stage.sign(rt, "host 0 signs", FIRST)?;
-    stage.sign(rt, "host 1 signs", host)
+    let late = Call::Land(write_of(FIRST, 3));
+    stage.pass(20)?;
+    stage.make("host 1 tries", Call::Try { host, resource })?;
+    stage.pass(1)?;
+    stage.make("host 1 tries", Call::Try { host, resource })?;
+    stage.pass(1)?;
+    stage.make("its claim lands", Call::Land(write_of(host, 1)))?;
+    stage.pass(20)?;
+    stage.check("host 1 checks", host)?;
+    stage.make("the late renewal of host 0 lands", late)?;
+    stage.sign("host 0 signs", FIRST)?;
+    stage.sign("host 1 signs", host)
 }
 
 // The room lies over one block of a worn image: its third access fails, and a second try gets over it.
@@ -128,19 +109,19 @@ fn main(rt: HostRuntime) -> io::Result<()> {
     let disk = Retry::new(Span::new(image, 2, 1), 2);
     let settings = match Settings::new(2, 1, 10, 40) {
         Ok(settings) => settings,
-        Err(refusal) => {
-            let number = refusal.number();
-            return println!(rt; "settings refused {number}");
-        }
+        Err(refusal) => return println!(rt; "settings refused {refusal}"),
     };
+    let mut list = [Deadline { tick: 0, of: 0 }; 8];
+    let room = Room::found(settings, disk);
+    let deadlines = Queue::new(&mut list);
     let mut stage = Stage {
-        room: Room::found(settings, disk),
+        rt: &rt,
+        room,
         log: [NO_ENTRY; 8],
+        deadlines,
     };
-    let mut list = [Deadline { tick: 0, host: 0 }; 8];
-    let mut deadlines = Queue::new(&mut list);
-    claim(&rt, &mut stage, &mut deadlines)?;
-    hold(&rt, &mut stage, &mut deadlines)?;
-    take_over(&rt, &mut stage, &mut deadlines)?;
-    show_log(&rt, &stage.room, &stage.log)
+    claim(&mut stage)?;
+    hold(&mut stage)?;
+    take_over(&mut stage)?;
+    stage.tell_log()
 }

@@ -9,57 +9,72 @@ mod show;
 use disk::{BLOCK_LENGTH, Disk, Retry, Span, Tally, TiredImage};
 use format::{Kind, LeaseRecord, Mark, read_record, write_record};
 use history::{tell_deadlines, tell_log};
-use show::{show_area, show_block, show_read, show_tally, show_written};
+use show::{show_area, show_block, show_read, show_worn, show_written};
 use std::io;
 
 const RESOURCES: u8 = 4;
 
-// Formats the records of all resources.
-fn format_all<D: Disk>(rt: &impl Print, disk: &mut D, area: &mut [u8]) -> io::Result<()> {
-    for resource in 0..RESOURCES {
-        let written = write_record(disk, LeaseRecord::founding(resource), area);
-        show_written(rt, "format", resource, written)?;
+// A disk of records with the area that they pass through, and where its steps are told.
+#[derive(Drop)]
+struct Tour<'a, R, D> {
+    rt: &'a R,
+    disk: D,
+    area: [u8; BLOCK_LENGTH],
+}
+
+impl<'a, R: Print, D: Disk> Tour<'a, R, D> {
+    // Writes a record and tells how it went.
+    fn write(&mut self, what: &str, lease: LeaseRecord) -> io::Result<()> {
+        let written = write_record(&mut self.disk, lease, &mut self.area);
+        show_written(self.rt, what, lease.resource, written)
     }
-    Ok(())
-}
 
-// Host 3 claims resource 2.
-fn claim<D: Disk>(rt: &impl Print, disk: &mut D, area: &mut [u8]) -> io::Result<()> {
-    let mark = Mark {
-        owner: 3,
-        generation: 1,
-        stamp: 1,
-    };
-    let lease = LeaseRecord {
-        kind: Kind::Owned,
-        resource: 2,
-        mark,
-        term: 1,
-    };
-    show_block(rt, lease)?;
-    let written = write_record(disk, lease, area);
-    show_written(rt, "claim", 2, written)
-}
-
-// Reads the record of each resource, and of one that is not there, and looks at the area after each.
-fn look_at_all<D: Disk>(rt: &impl Print, disk: &mut D, area: &mut [u8]) -> io::Result<()> {
-    for resource in 0..=usize::from(RESOURCES) {
-        let seen = read_record(disk, resource, area);
-        show_read(rt, resource, seen)?;
-        show_area(rt, area)?;
+    // Formats the records of all resources.
+    fn format_all(&mut self) -> io::Result<()> {
+        for resource in 0..RESOURCES {
+            self.write("format", LeaseRecord::founding(resource))?;
+        }
+        Ok(())
     }
-    Ok(())
-}
 
-fn tell<D: Disk>(rt: &impl Print, disk: &mut D, area: &mut [u8]) -> io::Result<()> {
-    let count = disk.count();
-    let height = disk.height();
-    println!(rt;
-        "retry 3 over span 2, 4 over an image of 16 blocks: {count} blocks at height {height}"
-    )?;
-    format_all(rt, disk, area)?;
-    claim(rt, disk, area)?;
-    look_at_all(rt, disk, area)
+    // Host 3 claims resource 2.
+    fn claim(&mut self) -> io::Result<()> {
+        let mark = Mark {
+            owner: 3,
+            generation: 1,
+            stamp: 1,
+        };
+        let lease = LeaseRecord {
+            kind: Kind::Owned,
+            resource: 2,
+            mark,
+            term: 1,
+        };
+        show_block(self.rt, lease)?;
+        self.write("claim", lease)
+    }
+
+    // Reads the record of each resource, and of one that is not there, and looks at the area after each.
+    fn look_at_all(&mut self) -> io::Result<()> {
+        for resource in 0..=usize::from(RESOURCES) {
+            let seen = read_record(&mut self.disk, resource, &mut self.area);
+            show_read(self.rt, resource, seen)?;
+            show_area(self.rt, &self.area)?;
+        }
+        Ok(())
+    }
+
+    // All steps on the disk, in their order.
+    fn tell(&mut self) -> io::Result<()> {
+        println!(self.rt;
+            "retry 3 over span 2, 4 over an image of 16 blocks: {} blocks at height {}",
+            self.disk.count(),
+            self.disk.height()
+        )?;
+        self.format_all()?;
+        self.claim()?;
+        self.look_at_all()
+    }
 }
 
 // Block 3 of the image fails twice after its first access, which three tries get over; block 5 fails three times.
@@ -68,16 +83,17 @@ fn main(rt: HostRuntime) -> io::Result<()> {
     let mut tallies = [Tally { good: 0, due: 0 }; 16];
     tallies[3] = Tally { good: 1, due: 2 };
     tallies[5] = Tally { good: 1, due: 3 };
-    show_tally(&rt, "before", 3, tallies[3])?;
-    show_tally(&rt, "before", 5, tallies[5])?;
+    show_worn(&rt, "before", &tallies)?;
     {
         let image = TiredImage::new(&mut bytes, &mut tallies);
-        let mut disk = Retry::new(Span::new(image, 2, 4), 3);
-        let mut area = [0u8; BLOCK_LENGTH];
-        tell(&rt, &mut disk, &mut area)?;
+        let mut tour = Tour {
+            rt: &rt,
+            disk: Retry::new(Span::new(image, 2, 4), 3),
+            area: [0; BLOCK_LENGTH],
+        };
+        tour.tell()?;
     }
-    show_tally(&rt, "after", 3, tallies[3])?;
-    show_tally(&rt, "after", 5, tallies[5])?;
+    show_worn(&rt, "after", &tallies)?;
     tell_log(&rt)?;
     tell_deadlines(&rt)
 }

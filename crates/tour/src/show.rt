@@ -2,18 +2,14 @@
 ghost use Rattle.std.specs.Prelude.{◌≡◌, count_by, nat_eq};
 
 use disk::{BLOCK_LENGTH, Fault, Tally};
-use format::{Kind, LeaseRecord, LogEntry};
+use format::{Kind, LeaseRecord};
 use std::io;
 
 // The bytes of a block that hold its record.
 const RECORD_LENGTH: usize = 20;
 
-fn show_fault(rt: &impl Print, what: &str, resource: usize, fault: Fault) -> io::Result<()> {
-    let cause = fault.cause.number();
-    let number = fault.number;
-    let height = fault.height;
-    println!(rt; "{what} {resource}: refused {cause}, block {number}, height {height}")
-}
+// The blocks of the image that fail at times.
+const WORN: [usize; 2] = [3, 5];
 
 // How a write went.
 pub(crate) fn show_written(
@@ -24,7 +20,7 @@ pub(crate) fn show_written(
 ) -> io::Result<()> {
     match written {
         Ok(()) => println!(rt; "{what} {resource}: written"),
-        Err(fault) => show_fault(rt, what, usize::from(resource), fault),
+        Err(fault) => println!(rt; "{what} {resource}: {fault}"),
     }
 }
 
@@ -34,19 +30,15 @@ pub(crate) fn show_read(
     resource: usize,
     seen: Result<LeaseRecord, Fault>,
 ) -> io::Result<()> {
-    let lease = match seen {
-        Ok(lease) => lease,
-        Err(fault) => return show_fault(rt, "read", resource, fault),
-    };
-    let term = lease.term;
-    let owner = lease.mark.owner;
-    let generation = lease.mark.generation;
-    let stamp = lease.mark.stamp;
-    match lease.kind {
-        Kind::Free => println!(rt; "read {resource}: free, term {term}"),
-        Kind::Owned => println!(rt;
-            "read {resource}: owned by host {owner}, generation {generation}, stamp {stamp}, term {term}"
-        ),
+    match seen {
+        Ok(lease) => match lease.kind {
+            Kind::Free => println!(rt; "read {resource}: free, term {}", lease.term),
+            Kind::Owned => println!(rt;
+                "read {resource}: owned by host {}, generation {}, stamp {}, term {}",
+                lease.mark.owner, lease.mark.generation, lease.mark.stamp, lease.term
+            ),
+        },
+        Err(fault) => println!(rt; "read {resource}: {fault}"),
     }
 }
 
@@ -55,7 +47,7 @@ pub(crate) fn show_block(rt: &impl Print, lease: LeaseRecord) -> io::Result<()> 
     let mut area = [0u8; BLOCK_LENGTH];
     let _ = lease.encode(&mut area);
     print!(rt; "block of the claim:")?;
-    for byte in &area[0..RECORD_LENGTH] {
+    for byte in area.iter().take(RECORD_LENGTH) {
         print!(rt; " {byte:02x}")?;
     }
     println!(rt; "")
@@ -65,57 +57,23 @@ pub(crate) fn show_block(rt: &impl Print, lease: LeaseRecord) -> io::Result<()> 
 fn zeros_in(bytes: &[u8]) -> usize
     ensures { result ≡ count_by (λ b. nat_eq b 0) bytes.now }
 {
-    let mut zeros: usize = 0;
-    for byte in bytes {
-        if *byte == 0 {
-            zeros += 1;
-        }
-    }
-    zeros
+    bytes.iter().filter(|b| **b == 0).count()
 }
 
 // What the area holds after a read.
 pub(crate) fn show_area(rt: &impl Print, area: &[u8]) -> io::Result<()> {
-    let zeros = zeros_in(area);
-    let length = area.len();
-    println!(rt; "  area: {zeros} of {length} bytes are zero")
+    println!(rt;
+        "  area: {} of {} bytes are zero",
+        zeros_in(area),
+        area.len()
+    )
 }
 
-// How much wear a block of the image has left.
-pub(crate) fn show_tally(
-    rt: &impl Print,
-    when: &str,
-    block: usize,
-    tally: Tally,
-) -> io::Result<()> {
-    let good = tally.good;
-    let due = tally.due;
-    println!(rt; "{when}, block {block}: good {good}, due {due}")
-}
-
-// The line of a log entry, and whether it reads back as the entry and the offset.
-pub(crate) fn show_line(rt: &impl Print, entry: LogEntry, offset: i32) -> io::Result<()> {
-    let mut buffer = [0u8; 64];
-    let length = match entry.print(offset, &mut buffer) {
-        Ok(length) => length,
-        Err(refusal) => {
-            let number = refusal.number();
-            return println!(rt; "log line refused {number}");
-        }
-    };
-    let line = &buffer[0..length];
-    for byte in line {
-        let letter = char::from(*byte);
-        print!(rt; "{letter}")?;
+// How much wear the blocks of the image that fail at times have left.
+pub(crate) fn show_worn(rt: &impl Print, when: &str, tallies: &[Tally; 16]) -> io::Result<()> {
+    for block in WORN {
+        let Tally { good, due } = tallies[block];
+        println!(rt; "{when}, block {block}: good {good}, due {due}")?;
     }
-    match LogEntry::parse(line) {
-        Ok((again, back)) => {
-            let same = again == entry && back == offset;
-            println!(rt; "  reads back: {same}")
-        }
-        Err(refusal) => {
-            let number = refusal.number();
-            println!(rt; "  refused {number}")
-        }
-    }
+    Ok(())
 }
