@@ -1,4 +1,4 @@
-use Rattle.std.proofs.Common.{◌≡◌, length, Ok, Err, sym, ap, ◌∙◌, rules}
+use Rattle.std.proofs.Common.{◌≡◌, length, Err, sym, ap, ◌∙◌, rules}
 use Rattle.std.proofs.lemmas.Result.{err_from_is_err_and}
 use Rattle.disk.specs.Model.{height_above, area_after_read}
 use Rattle.format.specs.Stores.{read_answer, and_then, placed}
@@ -22,31 +22,16 @@ returns-in_err-read g c =
       area = c.read.ensures.area ∙ refused_area m n size _ (sym refused);
     }
 
-pub returns-in_err-lease : goal.returns-in_err-lease
-unfolding read_answer
-returns-in_err-lease g c =
-    let m = g.D.Disk.meaning c.args.disk.now in
-    let n = c.args.resource in
-    let size = length c.args.area.now in
-    let e : c.from_residual-in_err-lease.result ≡ read_answer m n size = search rules in
-    record {
-      answer = e;
-      exact = λ x. reads_exactly m n size x c.from_residual-in_err-lease.result e;
-      disk = c.read.ensures.disk;
-      outside = c.read.ensures.outside;
-      area = search rules;
-    }
-
 pub returns : goal.returns
 unfolding read_answer
 returns g c =
     let m = g.D.Disk.meaning c.args.disk.now in
     let n = c.args.resource in
     let size = length c.args.area.now in
-    let e : Ok c.in_ok-lease.lease ≡ read_answer m n size = search rules in
+    let e : c.judge.result ≡ read_answer m n size = search rules in
     record {
       answer = e;
-      exact = λ x. reads_exactly m n size x (Ok c.in_ok-lease.lease) e;
+      exact = λ x. reads_exactly m n size x c.judge.result e;
       disk = c.read.ensures.disk;
       outside = c.read.ensures.outside;
       area = search rules;
