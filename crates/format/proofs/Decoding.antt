@@ -1,5 +1,5 @@
 -- A block decodes to a record exactly when it is the block that this record writes.
-use Rattle.std.proofs.Common.{◌≡◌, ℕ, ◌+◌, ◌*◌, ◌<◌, Bool, true, false, cond, ◌&&◌, List, length, get_or, Ok, Err, Result, sym, refl, ap, ◌∙◌, subst, ⊎_elim, arith}
+use Rattle.std.proofs.Common.{◌≡◌, ℕ, ◌+◌, ◌*◌, ◌<◌, Bool, true, false, cond, ◌&&◌, List, length, get_or, Ok, Err, Some, None, Option, Result, Decides, sym, refl, ap, ◌∙◌, subst, ⊎_elim, arith}
 use Rattle.std.proofs.lemmas.Bool.{and_parts, and_from, cases_Bool, cond-true, cond-false}
 use Rattle.std.proofs.lemmas.Bool.Decides.{nat_tests}
 use Rattle.disk.specs.declared.fault.Refusal.{Refusal}
@@ -8,7 +8,9 @@ use Rattle.format.specs.declared.lease.Kind.{Kind}
 use Rattle.format.specs.declared.lease.Kind.TheVariants.{Free, Owned}
 use Rattle.format.specs.declared.lease.LeaseRecord.{LeaseRecord}
 use Rattle.format.specs.Blocks.{valid, in_range, fits_kind, block_of, Written, same_bytes, kind_number, kind_of, fields_of, decoded}
-use Rattle.format.proofs.Alike.{same_self, same_so}
+use Rattle.std.specs.Option.{ok_or}
+use Rattle.format.proofs.Candidates.{Found}
+use Rattle.std.proofs.lemmas.Slice.Eq.{compares_Decides}
 use Rattle.format.proofs.ByteOrder.{byte_order}
 
 -- the numbers of a valid record fit the bytes that store them
@@ -63,6 +65,9 @@ unfolding block_of
 fields_back x f =
     rw (kind_back x.kind, byte_order.number_back 2 x.mark.generation f.generation, byte_order.number_back 4 x.mark.stamp f.stamp, byte_order.number_back 4 x.term f.term)
 
+same : (xs ys : List ℕ) → Decides (same_bytes xs ys) (xs ≡ ys)
+same = compares_Decides same_bytes (record { empty = refl; shorter = λ y ys. refl; longer = λ x xs. refl; heads = λ x y xs ys. refl })
+
 -- the test that decoding makes
 passes : List ℕ → LeaseRecord → Bool
 passes b y = valid y && same_bytes b (block_of y)
@@ -75,15 +80,14 @@ pub decodes : (x : LeaseRecord) (b : List ℕ) → Written x b → decoded b ≡
 unfolding decoded judged passes
 decodes x b w =
     let y : fields_of b ≡ x = ap fields_of w.1 ∙ fields_back x (valid_fits x w.0) in
-    let same : same_bytes b (block_of x) ≡ true = ap (λ l. same_bytes l (block_of x)) w.1 ∙ same_self (block_of x) in
-    ap (judged b) y ∙ cond-true (passes b x) (Ok x) (Err NotARecord) (and_from (valid x) (same_bytes b (block_of x)) w.0 same)
+    ap (judged b) y ∙ cond-true (passes b x) (Ok x) (Err NotARecord) (and_from (valid x) (same_bytes b (block_of x)) w.0 ((same b (block_of x)).1 w.1))
 
 -- what passes is the block of the record whose fields stand there
 written : (b : List ℕ) → passes b (fields_of b) ≡ true → Written (fields_of b) b
 unfolding passes
 written b e =
     let p = and_parts (valid (fields_of b)) (same_bytes b (block_of (fields_of b))) e in
-    (p.0, same_so b (block_of (fields_of b)) p.1)
+    (p.0, (same b (block_of (fields_of b))).0 p.1)
 
 pub refuses : (b : List ℕ) → ((x : LeaseRecord) → Written x b → ⊥) → decoded b ≡ Err NotARecord
 unfolding decoded passes
@@ -99,3 +103,7 @@ ok_only b x false e o = absurd (let z : ◌≡◌ {A = ℕ} 0 1 = cc in omega ar
 pub exact : (b : List ℕ) (r : Result LeaseRecord Refusal) → r ≡ decoded b → (x : LeaseRecord) → (r ≡ Ok x → Written x b) × (Written x b → r ≡ Ok x)
 unfolding decoded passes
 exact b r e x = (λ o. ok_only b x (passes b (fields_of b)) refl (sym e ∙ o), λ w. e ∙ decodes x b w)
+
+pub found : (b : List ℕ) (r : Option LeaseRecord) → Found (λ x. Written x b) r → ok_or r NotARecord ≡ decoded b
+found b (Some x) f = sym (decodes x b f.0)
+found b None none = sym (refuses b none)
