@@ -1,5 +1,5 @@
 -- Texts in lent buffers.
-use Rattle.std.specs.Prelude.{◌≡◌, ℕ, ◌<◌, ◌≤◌, Bool, cond, List, [], ◌∷◌, ◌++◌, length, drop, replicate, Ok, Err, decimal, Result, ◌≢◌, nat_le, slice_index}
+use Rattle.std.specs.Prelude.{◌≡◌, ℕ, ◌≤◌, Bool, cond, List, [], ◌∷◌, ◌++◌, length, drop, replicate, Ok, Err, decimal, Result, ◌≢◌, nat_le}
 use Rattle.std.specs.List.{AllByRecursion}
 use Rattle.disk.specs.declared.fault.Refusal.{Refusal}
 use Rattle.disk.specs.declared.fault.Refusal.TheVariants.{BadValue, BufferShort}
@@ -33,7 +33,3 @@ print_after (Err _) text buffer = replicate (length buffer) 0
 -- no byte is a space
 abbrev pub Spaceless : List ℕ → Type 0
 Spaceless text = AllByRecursion (λ b. b ≢ 32) text
-
--- some digits, at most nine, with no leading zero
-abbrev pub Plain : List ℕ → Type 0
-Plain digits = (0 < length digits) × (length digits ≤ 9) × (slice_index digits 0 ≡ 48 → length digits ≡ 1)

@@ -18,14 +18,8 @@ impl LeaseRecord {
         ensures { result ≡ founding_of resource }
     {
         LeaseRecord {
-            kind: Kind::Free,
             resource,
-            mark: Mark {
-                owner: 0,
-                generation: 0,
-                stamp: 0,
-            },
-            term: 0,
+            ..LeaseRecord::default()
         }
     }
 

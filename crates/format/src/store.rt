@@ -32,6 +32,7 @@ pub fn read_record<D: Disk>(
 }
 
 // Writes a record to the block of its resource; the area is all zero afterwards, whatever comes.
+#[tactic(auto, unfolding(crate::specs::Stores::write_answer, crate::specs::Stores::after_record))]
 pub fn write_record<D: Disk>(disk: &mut D, lease: LeaseRecord, area: &mut [u8]) -> Result<(), Fault>
     ensures answer { result ≡ write_answer (D.Disk.meaning disk.old) lease (length area.old) }
     ensures disk { D.Disk.meaning disk.new ≡ after_record (D.Disk.meaning disk.old) lease (length area.old) }
