@@ -2,23 +2,19 @@
 use Rattle.std.proofs.Common.{◌≡◌, ℕ, ◌≤◌, Bool, true, false, cond, leb, List, [], ◌++◌, length, Ok, Err, refl, ap, ◌∙◌, arith, leb-true}
 use Rattle.std.proofs.lemmas.List.{length-append, append_assoc}
 use Rattle.disk.specs.declared.fault.Refusal.TheVariants.{BufferShort}
-use Rattle.format.specs.Texts.{print_answer}
-
--- a text goes on with a piece, if there is room for both
-abbrev pub Added : List ℕ → List ℕ → List ℕ → Type 0
-Added t a u = length (t ++ a) ≤ 64 → u ≡ t ++ a
+use Rattle.format.specs.declared.buffer.LineBuffer.{LineBuffer}
+use Rattle.format.specs.Texts.{held, Adds, print_answer}
 
 -- two pieces, one after the other
-pub two : (t u v a b : List ℕ) → Added t a u → Added u b v → Added t (a ++ b) v
-two t u v a b p q room =
-    let first : u ≡ t ++ a = p (omega (arith, length-append t (a ++ b), length-append a b, length-append t a)) in
-    let both : (t ++ a) ++ b ≡ t ++ (a ++ b) = append_assoc t a b in
-    let e = ap (λ w. w ++ b) first ∙ both in
+pub two : (l m n : LineBuffer) (a b : List ℕ) → Adds l a m → Adds m b n → Adds l (a ++ b) n
+two l m n a b p q room =
+    let first : held m ≡ held l ++ a = p (omega (arith, length-append (held l) (a ++ b), length-append a b, length-append (held l) a)) in
+    let e = ap (λ w. w ++ b) first ∙ append_assoc (held l) a b in
     q (omega (arith, ap length e)) ∙ e
 
 -- a text that is made from nothing and fits
-pub whole : (t u text : List ℕ) → t ≡ [] → Added t text u → length text ≤ 64 → u ≡ text
-whole t u text none added fits = let e = ap (λ w. w ++ text) none in added (omega (arith, ap length e)) ∙ e
+pub whole : (l m : LineBuffer) (text : List ℕ) → held l ≡ [] → Adds l text m → length text ≤ 64 → held m ≡ text
+whole l m text none added fits = let e = ap (λ w. w ++ text) none in added (omega (arith, ap length e)) ∙ e
 
 -- what is printed fits the buffer
 pub printed_fits : (good : Bool) (text : List ℕ) (size n : ℕ) → Ok n ≡ print_answer good text size → n ≤ size
