@@ -1,7 +1,7 @@
 // The block that a lease record writes, and the record that a block is.
-ghost use Rattle.std.specs.Prelude.{◌≡◌, true, length, Ok, Decides, MatchOption, ◌≢◌};
+ghost use Rattle.std.specs.Prelude.{◌≡◌, length, Ok, MatchOption};
 ghost use Rattle.format.specs.Bytes.{ByteOrder};
-ghost use Rattle.format.specs.Blocks.{founding as founding_of, valid, kind_number, front_of, sums, sum_bytes, block_of, Written, encode_answer, encoded_area, decoded};
+ghost use Rattle.format.specs.Blocks.{founding as founding_of, valid, front_of, sums, sum_bytes, block_of, Written, encode_answer, encoded_area, decoded};
 ghost use Rattle.format.specs.Examples.{WorkedExamples};
 
 use crate::lease::{Kind, LeaseRecord, Mark};

@@ -17,6 +17,7 @@ fn candidate_number(text: &[u8]) -> Option<u32>
 pub fn read_decimal(text: &[u8]) -> Option<u32>
     ensures { MatchOption result ((n : ℕ) → n < 10 ^ 9 → text.now ≢ decimal n) (λ n. (n < 10 ^ 9) × (text.now ≡ decimal n)) }
 {
-    candidate_number(text)
-        .filter(|n| *n <= MOST_DECIMAL && itoa::Buffer::new().format(*n).as_bytes() == text)
+    candidate_number(text).filter(|n| {
+        *n <= MOST_DECIMAL && itoa::Buffer::new().format(*n).as_bytes() == text
+    })
 }

@@ -1,8 +1,7 @@
 // Log entries as lines of text.
-ghost use Rattle.std.specs.Prelude.{◌==◌, position, MatchOption, ◌≡◌, ℕ, ◌^◌, ◌<◌, ◌≤◌, Bool, true, false, List, [], ◌∷◌, ◌++◌, length, ℤ, Decides, ◌≢◌, slice_index};
+ghost use Rattle.std.specs.Prelude.{◌==◌, position, MatchOption, ◌≡◌, ℕ, ◌^◌, ◌<◌, Bool, false, List, [], length, ℤ, ◌≢◌};
 ghost use Rattle.format.specs.Texts.{held, Adds, spaced, number_or_dash, print_answer, print_after, Spaceless};
-ghost use Rattle.format.specs.Offsets.{near, offset_text};
-ghost use Rattle.format.specs.Logs.{event_word, has_lease, has_until, fits_field, printable, line_text, PrintsLine, ReadsLine, LinesDiffer};
+ghost use Rattle.format.specs.Logs.{event_word, has_lease, has_until, printable, line_text, PrintsLine, ReadsLine, LinesDiffer};
 
 use crate::buffer::LineBuffer;
 use crate::clock::Tick;
@@ -150,6 +149,7 @@ fn number_in(field: &[u8]) -> Option<u32>
     read_decimal(field)
 }
 
+// The same, if it fits a byte.
 fn small_number_in(field: &[u8]) -> Option<u8>
     ensures { MatchOption result ((applies : Bool) (n : ℕ) → n < 256 → (applies ≡ false → n ≡ 0) → field.now ≢ number_or_dash applies n) (λ k. (applies : Bool) (n : ℕ) → n < 256 → (applies ≡ false → n ≡ 0) → field.now ≡ number_or_dash applies n → k ≡ n) }
 {

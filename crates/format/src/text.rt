@@ -1,6 +1,7 @@
 // Making a line of text piece by piece. A piece that does not fit any more is dropped, so that no function that makes
-// a line has to speak of room; that no piece is dropped follows once, from the length of a whole line.
-ghost use Rattle.std.specs.Prelude.{◌≡◌, ◌≤◌, true, [], ◌∷◌, ◌++◌, length, decimal, is_some, unwrap_or};
+// a line has to speak of room; that no piece is dropped follows once, from the length of a whole line. Pieces are pushed
+// and not written by `write!`, since what `write!` promises for any writer leaves open whether it succeeds.
+ghost use Rattle.std.specs.Prelude.{◌≡◌, true, [], ◌∷◌, length, decimal, is_some, unwrap_or};
 ghost use Rattle.format.specs.Texts.{held, Adds, spaced, number_or_dash, print_answer, print_after};
 
 use crate::buffer::LineBuffer;
