@@ -1,14 +1,16 @@
 -- A block decodes to a record exactly when it is the block that this record writes.
-use Rattle.std.proofs.Common.{◌≡◌, ℕ, ◌+◌, ◌*◌, ◌<◌, Bool, true, false, cond, ◌&&◌, List, length, get_or, Ok, Err, Result, sym, refl, ap, ◌∙◌, subst, ⊎_elim, arith}
-use Rattle.std.proofs.lemmas.Bool.{and_parts, and_from, cases_Bool, cond-true, cond-false}
-use Rattle.std.proofs.lemmas.Bool.Decides.{nat_tests}
-use Rattle.disk.specs.declared.fault.Refusal.{Refusal}
+use Rattle.std.proofs.Common.{◌≡◌, ℕ, ◌+◌, ◌*◌, ◌<◌, Bool, true, false, cond, ◌&&◌, List, length, get_or, Ok, Err, Option, Decides, sym, refl, ap, ◌∙◌, arith}
+use Rattle.std.proofs.lemmas.Bool.{and_parts}
+use Rattle.std.proofs.lemmas.Bool.Decides.{nat_tests, Decides-and}
 use Rattle.disk.specs.declared.fault.Refusal.TheVariants.{NotARecord}
 use Rattle.format.specs.declared.lease.Kind.{Kind}
 use Rattle.format.specs.declared.lease.Kind.TheVariants.{Free, Owned}
 use Rattle.format.specs.declared.lease.LeaseRecord.{LeaseRecord}
 use Rattle.format.specs.Blocks.{valid, in_range, fits_kind, block_of, Written, same_bytes, kind_number, kind_of, fields_of, decoded}
-use Rattle.format.proofs.Alike.{same_self, same_so}
+use Rattle.std.specs.Option.{ok_or}
+use Rattle.std.specs.Bool.{then_some}
+use Rattle.format.proofs.Candidates.{Found, passed, one_found, exactly}
+use Rattle.std.proofs.lemmas.Slice.Eq.{compares_Decides}
 use Rattle.format.proofs.ByteOrder.{byte_order}
 
 -- the numbers of a valid record fit the bytes that store them
@@ -63,39 +65,41 @@ unfolding block_of
 fields_back x f =
     rw (kind_back x.kind, byte_order.number_back 2 x.mark.generation f.generation, byte_order.number_back 4 x.mark.stamp f.stamp, byte_order.number_back 4 x.term f.term)
 
--- the test that decoding makes
-passes : List ℕ → LeaseRecord → Bool
-passes b y = valid y && same_bytes b (block_of y)
+same : (xs ys : List ℕ) → Decides (same_bytes xs ys) (xs ≡ ys)
+same = compares_Decides same_bytes (record { empty = refl; shorter = λ y ys. refl; longer = λ x xs. refl; heads = λ x y xs ys. refl })
 
-judged : List ℕ → LeaseRecord → Result LeaseRecord Refusal
-judged b y = cond (passes b y) (Ok y) (Err NotARecord)
+module _ (b : List ℕ) where
+  -- the test that decoding makes of the fields that stand in the bytes
+  passes : Bool
+  passes = valid (fields_of b) && same_bytes b (block_of (fields_of b))
 
--- a record's block decodes to the record
+  kept : Option LeaseRecord
+  kept = then_some passes (fields_of b)
+
+  kept_found : Found (λ x. Written x b) kept
+  unfolding passes kept
+  kept_found =
+      passed (λ x. Written x b) passes (fields_of b) kept (λ x w. sym (ap fields_of w.1 ∙ fields_back x (valid_fits x w.0)))
+      (Decides-and (valid (fields_of b)) (same_bytes b (block_of (fields_of b))) (λ e. e, λ e. e) (same b (block_of (fields_of b))))
+      refl
+
+  answer : (t : Bool) (y : LeaseRecord) → cond t (Ok y) (Err NotARecord) ≡ ok_or (then_some t y) NotARecord
+  answer true y = refl
+  answer false y = refl
+
+  decoded_is : decoded b ≡ ok_or kept NotARecord
+  unfolding decoded passes kept
+  decoded_is = answer passes (fields_of b)
+
+  -- a record is decoded exactly from its block
+  pub exact : (x : LeaseRecord) → (decoded b ≡ Ok x → Written x b) × (Written x b → decoded b ≡ Ok x)
+  exact x =
+      let e = exactly (λ y. Written y b) NotARecord kept kept_found x in
+      (λ o. e.0 (sym decoded_is ∙ o), λ w. decoded_is ∙ e.1 w)
+
+  -- what is found is what is decoded
+  pub found : (r : Option LeaseRecord) → Found (λ x. Written x b) r → ok_or r NotARecord ≡ decoded b
+  found r f = ap (λ s. ok_or s NotARecord) (one_found (λ x. Written x b) r kept f kept_found) ∙ sym decoded_is
+
 pub decodes : (x : LeaseRecord) (b : List ℕ) → Written x b → decoded b ≡ Ok x
-unfolding decoded judged passes
-decodes x b w =
-    let y : fields_of b ≡ x = ap fields_of w.1 ∙ fields_back x (valid_fits x w.0) in
-    let same : same_bytes b (block_of x) ≡ true = ap (λ l. same_bytes l (block_of x)) w.1 ∙ same_self (block_of x) in
-    ap (judged b) y ∙ cond-true (passes b x) (Ok x) (Err NotARecord) (and_from (valid x) (same_bytes b (block_of x)) w.0 same)
-
--- what passes is the block of the record whose fields stand there
-written : (b : List ℕ) → passes b (fields_of b) ≡ true → Written (fields_of b) b
-unfolding passes
-written b e =
-    let p = and_parts (valid (fields_of b)) (same_bytes b (block_of (fields_of b))) e in
-    (p.0, same_so b (block_of (fields_of b)) p.1)
-
-pub refuses : (b : List ℕ) → ((x : LeaseRecord) → Written x b → ⊥) → decoded b ≡ Err NotARecord
-unfolding decoded passes
-refuses b none =
-    ⊎_elim (λ e. absurd (none (fields_of b) (written b e))) (λ e. cond-false (passes b (fields_of b)) (Ok (fields_of b)) (Err NotARecord) e)
-    (cases_Bool (passes b (fields_of b)))
-
--- and nothing else decodes to it
-ok_only : (b : List ℕ) (x : LeaseRecord) (t : Bool) → passes b (fields_of b) ≡ t → cond t (Ok (fields_of b)) (Err NotARecord) ≡ Ok x → Written x b
-ok_only b x true e o = let same : fields_of b ≡ x = cc in subst (λ y. Written y b) same (written b e)
-ok_only b x false e o = absurd (let z : ◌≡◌ {A = ℕ} 0 1 = cc in omega arith)
-
-pub exact : (b : List ℕ) (r : Result LeaseRecord Refusal) → r ≡ decoded b → (x : LeaseRecord) → (r ≡ Ok x → Written x b) × (Written x b → r ≡ Ok x)
-unfolding decoded passes
-exact b r e x = (λ o. ok_only b x (passes b (fields_of b)) refl (sym e ∙ o), λ w. e ∙ decodes x b w)
+decodes x b w = (exact b x).1 w

@@ -1,65 +1,41 @@
 -- Fields of a line: no field holds a space, so the first space ends the first field.
-use Rattle.std.proofs.Common.{◌≡◌, ℕ, ◌+◌, ◌-◌, ◌^◌, ◌<◌, ◌≤◌, Bool, true, false, cond, not, ◌&&◌, eqb, List, [], ◌∷◌, ◌++◌, length, get_or, take, drop, decimal, sym, refl, ap, ◌∙◌, subst, inl, inr, arith}
-use Rattle.std.proofs.lemmas.List.{length-append, get_or_append_left, get_or-append_right, take_at, drop_at, append_assoc}
-use Rattle.std.proofs.ByRecursion.{All-get_or, All-from_get_or}
+use Rattle.std.proofs.Common.{◌≡◌, ℕ, ◌+◌, ◌-◌, ◌^◌, ◌<◌, ◌≤◌, Bool, true, false, cond, not, ◌&&◌, eqb, List, [], ◌∷◌, ◌++◌, length, get_or, take, drop, decimal, sym, refl, ap, ◌∙◌, subst, arith, MatchOption, Option, position, Some, None, ltb}
+use Rattle.std.proofs.lemmas.List.{length-append, take_at, drop_at, append_assoc}
+use Rattle.std.proofs.ByRecursion.{All-from_get_or}
 use Rattle.std.proofs.lemmas.Fmt.{decimal_is_IsNumeral, decimal_injective, length-decimal-le}
 use Rattle.std.proofs.lemmas.Str.Parse.{digit_at}
-use Rattle.std.proofs.lemmas.Bool.{cases_order, and_parts, eqb-false, not-true}
+use Rattle.std.proofs.lemmas.Bool.{cond-true, ne_eqb, and_parts, eqb-false, not-true}
+use Rattle.std.specs.List.{position_or_len}
+use Rattle.std.proofs.lemmas.Bool.Decides.{nat_tests}
 use Rattle.format.specs.declared.events.Event.{Event}
 use Rattle.format.specs.declared.events.Event.TheVariants.{Granted, Renewed, Released, Expired, Crashed}
 use Rattle.format.specs.Texts.{spaced, number_or_dash, Spaceless}
 use Rattle.format.specs.Logs.{event_word}
 
--- what stands in a text that begins with a field
-module _ (text x y : List ℕ) (e : text ≡ spaced x y) where
-  in_field : (k : ℕ) → k < length x → get_or text k 0 ≡ get_or x k 0
-  in_field k h = ap (λ u. get_or u k 0) e ∙ get_or_append_left x (32 ∷ y) 0 k h
+abbrev pub is_space : ℕ → Bool
+is_space b = eqb b 32
 
-  at_space : get_or text (length x) 0 ≡ 32
-  at_space =
-      let zero : length x - length x ≡ 0 = omega arith in
-      ap (λ u. get_or u (length x) 0) e ∙ get_or-append_right x (32 ∷ y) (length x) (length x) 0 refl (omega arith) ∙ ap (λ k. get_or (32 ∷ y) k 0) zero
+first_space : (x y : List ℕ) → Spaceless x → position_or_len is_space (spaced x y) ≡ length x
+first_space [] y free = refl
+first_space (b ∷ x) y free = let rest = first_space x y free.1 in rw (ne_eqb b 32 free.0) (omega arith)
 
-  longer : length text ≡ length x + (1 + length y)
-  longer = ap length e ∙ length-append x (32 ∷ y) ∙ omega arith
+-- where the first space of a field and what follows stands
+pub position_is : (text x y : List ℕ) → Spaceless x → text ≡ spaced x y → position is_space text ≡ Some (length x)
+position_is text x y free e =
+    let n = first_space x y free in
+    rw (e, n) (cond-true (ltb (length x) (length (spaced x y))) (Some (length x)) None (grind (arith, nat_tests, length-append x (32 ∷ y))))
 
-  not_before : Spaceless x → (k : ℕ) → k < length x → get_or text k 0 ≡ 32 → ⊥
-  not_before free k h s = All-get_or (λ b. b ≡ 32 → ⊥) x k 0 h free (sym (in_field k h) ∙ s)
-
--- the first space, at n, ends the field
-module _ (text x y : List ℕ) (n : ℕ) (free : Spaceless x) (e : text ≡ spaced x y) (before : (k : ℕ) → k < n → get_or text k 0 ≡ 32 → ⊥) (ends : n < length text → get_or text n 0 ≡ 32) where
-  field_ends : n ≡ length x
-  field_ends = elim (cases_order n (length x)) [
-    | inl same ↦ same
-    | inr (inl less) ↦ absurd (not_before text x y e free n less (ends (let l = longer text x y e in omega arith)))
-    | inr (inr more) ↦ absurd (before (length x) more (at_space text x y e))
-  ]
-
-  pub within : n < length text
-  within = let l = longer text x y e in let f = field_ends in omega arith
-
-  pub field_is : take n text ≡ x
-  field_is = ap (take n) e ∙ take_at x (32 ∷ y) n (sym field_ends)
-
-  pub rest_is : drop (n + 1) text ≡ y
-  rest_is =
-      let one : n + 1 ≡ length (x ++ 32 ∷ []) = let f = field_ends in let l = length-append x (32 ∷ []) in omega arith in
-      ap (drop (n + 1)) (e ∙ sym (append_assoc x (32 ∷ []) y)) ∙ drop_at (x ++ 32 ∷ []) y (n + 1) (sym one)
+pub rest_at : (x y : List ℕ) (n : ℕ) → n ≡ length x → drop (n + 1) (spaced x y) ≡ y
+rest_at x y n e =
+    ap (drop (n + 1)) (sym (append_assoc x (32 ∷ []) y)) ∙ drop_at (x ++ 32 ∷ []) y (n + 1) (length-append x (32 ∷ []) ∙ ap (λ k. k + 1) (sym e))
 
 -- two ways to begin with a field are one
-module _ (x y x' y' : List ℕ) (free : Spaceless x) (free' : Spaceless x') (e : spaced x y ≡ spaced x' y') where
-  same_field : x ≡ x'
-  same_field =
-      sym (field_is (spaced x y) x y (length x) free refl (not_before (spaced x y) x y refl free) (λ _. at_space (spaced x y) x y refl))
-      ∙ field_is (spaced x y) x' y' (length x) free' e (not_before (spaced x y) x y refl free) (λ _. at_space (spaced x y) x y refl)
-
-  same_rest : y ≡ y'
-  same_rest =
-      sym (rest_is (spaced x y) x y (length x) free refl (not_before (spaced x y) x y refl free) (λ _. at_space (spaced x y) x y refl))
-      ∙ rest_is (spaced x y) x' y' (length x) free' e (not_before (spaced x y) x y refl free) (λ _. at_space (spaced x y) x y refl)
-
-  pub same_parts : (x ≡ x') × (y ≡ y')
-  same_parts = (same_field, same_rest)
+pub same_parts : (x y x' y' : List ℕ) → Spaceless x → Spaceless x' → spaced x y ≡ spaced x' y' → (x ≡ x') × (y ≡ y')
+same_parts x y x' y' free free' e =
+    let n : length x ≡ length x' = sym (first_space x y free) ∙ ap (position_or_len is_space) e ∙ first_space x' y' free' in (
+      sym (take_at x (32 ∷ y) (length x) refl) ∙ ap (take (length x)) e ∙ take_at x' (32 ∷ y') (length x) (sym n),
+      sym (rest_at x y (length x) refl) ∙ ap (drop (length x + 1)) e ∙ rest_at x' y' (length x) n,
+    )
 
 -- a test that computes
 no_space : List ℕ → Bool
@@ -114,14 +90,18 @@ event_back Crashed = refl
 pub same_event : (v w : Event) → event_word v ≡ event_word w → v ≡ w
 same_event v w e = sym (event_back v) ∙ ap (λ u. event_by (get_or u 0 0) (get_or u 2 0)) e ∙ event_back w
 
--- the number of a field, read back
-pub number_is : (applies : Bool) (n k : ℕ) (field : List ℕ) → n < 10 ^ 9 → (applies ≡ false → n ≡ 0) → field ≡ number_or_dash applies n → (k < 10 ^ 9) × (field ≡ decimal k) → k ≡ n
-number_is true n k field h zero e r = let small = r.0 in decimal_injective k n (omega arith) (omega arith) (sym r.1 ∙ e)
-number_is false n k field h zero e r = absurd (dash_differs k (let small = r.0 in omega arith) (sym e ∙ r.1))
+-- the number of a field that is no minus, read back
+pub number_is : (field : List ℕ) (r : Option ℕ) → (field ≡ 45 ∷ [] → ⊥)
+    → MatchOption r ((k : ℕ) → k < 10 ^ 9 → field ≡ decimal k → ⊥) (λ k. (k < 10 ^ 9) × (field ≡ decimal k))
+    → MatchOption r ((applies : Bool) (n : ℕ) → n < 10 ^ 9 → field ≡ number_or_dash applies n → ⊥) (λ k. (applies : Bool) (n : ℕ) → n < 10 ^ 9 → (applies ≡ false → n ≡ 0) → field ≡ number_or_dash applies n → k ≡ n)
+number_is field None no_dash none = elim [ true ↦ none | false ↦ λ n h e. no_dash e ]
+number_is field (Some k) no_dash read =
+    elim [ true ↦ λ n h zero e. let small = read.0 in decimal_injective k n (omega arith) (omega arith) (sym read.1 ∙ e) | false ↦ λ n h zero e. absurd (no_dash e) ]
 
-pub number_none : (applies : Bool) (n : ℕ) (field : List ℕ) → n < 10 ^ 9 → (applies ≡ false → n ≡ 0) → field ≡ number_or_dash applies n → ((k : ℕ) → k < 10 ^ 9 → field ≡ decimal k → ⊥) → 0 ≡ n
-number_none true n field h zero e none = absurd (none n h e)
-number_none false n field h zero e none = sym (zero refl)
+-- the number of a minus
+pub dash_is : (field : List ℕ) → field ≡ 45 ∷ [] → (applies : Bool) (n : ℕ) → n < 10 ^ 9 → (applies ≡ false → n ≡ 0) → field ≡ number_or_dash applies n → 0 ≡ n
+dash_is field dash true n h zero e = absurd (dash_differs n (omega arith) (sym dash ∙ e))
+dash_is field dash false n h zero e = sym (zero refl)
 
 -- all but the last byte
 pub all_but_last : (rest text : List ℕ) (b : ℕ) → rest ≡ text ++ b ∷ [] → take (length rest - 1) rest ≡ text

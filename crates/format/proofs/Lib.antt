@@ -1,6 +1,5 @@
-pub mod Laid
+pub mod Candidates
 pub mod Sums
-pub mod Alike
 pub mod ByteOrder
 pub mod Decoding
 pub mod Storing

@@ -1,14 +1,18 @@
 -- The line of an entry: its length, and that it tells the entry and the offset.
-use Rattle.std.proofs.Common.{◌≡◌, ℕ, ◌≤◌, Bool, true, false, leb, List, [], ◌∷◌, ◌++◌, length, ℤ, sym, refl, ap, ◌∙◌, arith}
+use Rattle.std.proofs.Common.{◌≡◌, ℕ, decimal, ◌≤◌, ◌<◌, ◌^◌, Bool, true, false, leb, List, [], ◌∷◌, ◌++◌, length, ℤ, sym, refl, ap, ◌∙◌, arith, w32, SFits, Option, Some, None, is_some, unwrap_or}
 use Rattle.std.proofs.lemmas.List.{length-append, append_assoc}
 use Rattle.std.proofs.lemmas.Fmt.{length-decimal-le, decimal_injective}
 use Rattle.std.proofs.lemmas.Bool.{and_parts, leb-true}
 use Rattle.std.proofs.lemmas.Bool.Decides.{nat_tests}
+use Rattle.std.specs.Bool.{then_some}
+use Rattle.std.specs.Option.{ok_or}
+use Rattle.disk.specs.declared.fault.Refusal.TheVariants.{NotALine}
+use Rattle.format.proofs.Candidates.{Found}
 use Rattle.format.specs.declared.events.LogEntry.{LogEntry}
-use Rattle.format.specs.Texts.{spaced, number_or_dash}
+use Rattle.format.specs.Texts.{spaced, number_or_dash, Spaceless}
 use Rattle.format.specs.Offsets.{near, offset_text}
-use Rattle.format.specs.Logs.{has_lease, has_until, fits_field, printable, line_text, LinesDiffer}
-use Rattle.format.proofs.Signs.{length_seconds, same_offset}
+use Rattle.format.specs.Logs.{event_word, has_lease, has_until, fits_field, printable, line_text, LinesDiffer, PrintsLine, ReadsLine}
+use Rattle.format.proofs.Signs.{length_offset, same_offset}
 use Rattle.format.proofs.Fields.{spaceless_decimal, spaceless_word, spaceless_number, same_parts, same_event, same_number, all_but_last, length_number, length_word}
 
 -- what a printable entry keeps
@@ -51,17 +55,75 @@ ranges e z p =
       offset = f.1;
     }
 
-pub length_line : (e : LogEntry) (z : ℤ) → Ranges e z → length (line_text e z) ≤ 64
+-- the numbers of an entry and an offset fit their types
+pub record Typed (e : LogEntry) (z : ℤ) : Type 0 where
+  pub tick : e.tick.0 < 2 ^ 32
+  pub host : e.host < 2 ^ 8
+  pub resource : e.resource < 2 ^ 8
+  pub term : e.term < 2 ^ 32
+  pub until : e.until.0 < 2 ^ 32
+  pub offset : SFits w32 z
+
+pub length_line : (e : LogEntry) (z : ℤ) → Typed e z → length (line_text e z) ≤ 64
 unfolding line_text
-length_line e z r =
-    let tick = length-decimal-le 6 e.tick.0 (omega arith) (omega (arith, r.tick)) (omega (arith, r.tick)) in
+length_line e z t =
+    let tick = length-decimal-le 10 e.tick.0 (omega arith) (omega (arith, t.tick)) (omega (arith, t.tick)) in
     let word = length_word e.event in
-    let host = length-decimal-le 2 e.host (omega arith) (omega (arith, r.host)) (omega (arith, r.host)) in
-    let resource = length_number (has_lease e.event) 1 e.resource (omega arith) (omega (arith, r.resource)) (omega (arith, r.resource)) in
-    let term = length_number (has_lease e.event) 6 e.term (omega arith) (omega (arith, r.term)) (omega (arith, r.term)) in
-    let until = length_number (has_until e.event) 7 e.until.0 (omega arith) (omega (arith, r.until)) (omega (arith, r.until)) in
-    let seconds = length_seconds z r.offset in
-    simp length-append (omega arith)
+    let host = length-decimal-le 3 e.host (omega arith) (omega (arith, t.host)) (omega (arith, t.host)) in
+    let resource = length_number (has_lease e.event) 3 e.resource (omega arith) (omega (arith, t.resource)) (omega (arith, t.resource)) in
+    let term = length_number (has_lease e.event) 10 e.term (omega arith) (omega (arith, t.term)) (omega (arith, t.term)) in
+    let until = length_number (has_until e.event) 10 e.until.0 (omega arith) (omega (arith, t.until)) (omega (arith, t.until)) in
+    let offset = length_offset z t.offset in
+    simp length-append (omega (arith, simp length-append at offset))
+
+-- a field that is shown as a number where it applies
+pub shown : (applies : Bool) (n : ℕ) (field : Option ℕ) → field ≡ then_some applies n → number_or_dash (is_some field) (unwrap_or field 0) ≡ number_or_dash applies n
+shown true n field e = ap (λ f. number_or_dash (is_some f) (unwrap_or f 0)) e
+shown false n field e = ap (λ f. number_or_dash (is_some f) (unwrap_or f 0)) e
+
+-- what stands in a line behind each of its fields
+module _ (e : LogEntry) (z : ℤ) where
+  abbrev pub behind_until : List ℕ
+  behind_until = offset_text z ++ 10 ∷ []
+
+  abbrev pub behind_term : List ℕ
+  behind_term = spaced (number_or_dash (has_until e.event) e.until.0) behind_until
+
+  abbrev pub behind_resource : List ℕ
+  behind_resource = spaced (number_or_dash (has_lease e.event) e.term) behind_term
+
+  abbrev pub behind_host : List ℕ
+  behind_host = spaced (number_or_dash (has_lease e.event) e.resource) behind_resource
+
+  abbrev pub behind_word : List ℕ
+  behind_word = spaced (decimal e.host) behind_host
+
+  abbrev pub behind_tick : List ℕ
+  behind_tick = spaced (event_word e.event) behind_word
+
+  pub line_is : line_text e z ≡ spaced (decimal e.tick.0) behind_tick
+  unfolding line_text
+  line_is = refl
+
+-- no field of a printable entry holds a space
+pub record Free (e : LogEntry) : Type 0 where
+  pub tick : Spaceless (decimal e.tick.0)
+  pub word : Spaceless (event_word e.event)
+  pub host : Spaceless (decimal e.host)
+  pub resource : Spaceless (number_or_dash (has_lease e.event) e.resource)
+  pub term : Spaceless (number_or_dash (has_lease e.event) e.term)
+  pub until : Spaceless (number_or_dash (has_until e.event) e.until.0)
+
+pub free : (e : LogEntry) (z : ℤ) → Ranges e z → Free e
+free e z r =
+    record {
+      tick = spaceless_decimal e.tick.0 (omega (arith, r.tick));
+      word = spaceless_word e.event;
+      host = spaceless_decimal e.host (omega (arith, r.host));
+      resource = spaceless_number (has_lease e.event) e.resource (omega (arith, r.resource));
+      term = spaceless_number (has_lease e.event) e.term (omega (arith, r.term));
+      until = spaceless_number (has_until e.event) e.until.0 (omega (arith, r.until));
+    }
 
 -- the pieces of a line, one after the other
 pub joined : (a b c d f g o : List ℕ)
@@ -75,12 +137,14 @@ unfolding line_text
 lines_differ e f y z p q same =
     let r = ranges e y p in
     let s = ranges f z q in
-    let a = same_parts _ _ _ _ (spaceless_decimal e.tick.0 (omega (arith, r.tick))) (spaceless_decimal f.tick.0 (omega (arith, s.tick))) same in
-    let b = same_parts _ _ _ _ (spaceless_word e.event) (spaceless_word f.event) a.1 in
-    let c = same_parts _ _ _ _ (spaceless_decimal e.host (omega (arith, r.host))) (spaceless_decimal f.host (omega (arith, s.host))) b.1 in
-    let d = same_parts _ _ _ _ (spaceless_number (has_lease e.event) e.resource (omega (arith, r.resource))) (spaceless_number (has_lease f.event) f.resource (omega (arith, s.resource))) c.1 in
-    let g = same_parts _ _ _ _ (spaceless_number (has_lease e.event) e.term (omega (arith, r.term))) (spaceless_number (has_lease f.event) f.term (omega (arith, s.term))) d.1 in
-    let h = same_parts _ _ _ _ (spaceless_number (has_until e.event) e.until.0 (omega (arith, r.until))) (spaceless_number (has_until f.event) f.until.0 (omega (arith, s.until))) g.1 in
+    let t = free e y r in
+    let u = free f z s in
+    let a = same_parts _ _ _ _ t.tick u.tick same in
+    let b = same_parts _ _ _ _ t.word u.word a.1 in
+    let c = same_parts _ _ _ _ t.host u.host b.1 in
+    let d = same_parts _ _ _ _ t.resource u.resource c.1 in
+    let g = same_parts _ _ _ _ t.term u.term d.1 in
+    let h = same_parts _ _ _ _ t.until u.until g.1 in
     let event = same_event e.event f.event b.0 in
     let lease = ap has_lease event in
     let tick = decimal_injective e.tick.0 f.tick.0 (omega (arith, r.tick)) (omega (arith, s.tick)) a.0 in
@@ -92,3 +156,8 @@ lines_differ e f y z p q same =
       λ i. record { tick = record { 0 = tick i }; event = event i; host = host i; resource = resource i; term = term i; until = record { 0 = until i } },
       offset,
     )
+
+-- what is found is what reading answers
+pub reads_line : (text : List ℕ) (r : Option (LogEntry × ℤ)) → Found (λ p. PrintsLine p.0 p.1 text) r → ReadsLine text (ok_or r NotALine)
+reads_line text None none = (refl, λ e z p. none (e, z) p)
+reads_line text (Some q) found = (found.0, λ e z p. let same = found.1 (e, z) p in (ap (λ x. x.0) same, ap (λ x. x.1) same))

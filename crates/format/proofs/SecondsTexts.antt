@@ -37,8 +37,8 @@ module _ (text : List ℕ) (m : ℕ) (e : text ≡ seconds_text m) where
   thousandths = back text (decimal (m / 1000)) _ _ _ e (length text - 1) 3 (let l = long text (decimal (m / 1000)) _ _ _ e in omega arith)
 
 -- a number of milliseconds by its seconds and three digits
-pub rebuilt : (m s x y z : ℕ) → m / 1000 ≡ s → x ≡ 48 + m / 100 % 10 → y ≡ 48 + m / 10 % 10 → z ≡ 48 + m % 10 → m ≡ s * 1000 + (x - 48) * 100 + (y - 48) * 10 + (z - 48)
-rebuilt m s x y z p q r t =
-    let a : m / 10 / 10 ≡ m / 100 = div-div-eq-div-mul m 10 10 in
-    let b : m / 100 / 10 ≡ m / 1000 = div-div-eq-div-mul m 100 10 in
+pub rebuilt : (m s a b d : ℕ) → m / 1000 ≡ s → m / 100 % 10 ≡ a → m / 10 % 10 ≡ b → m % 10 ≡ d → m ≡ s * 1000 + a * 100 + b * 10 + d
+rebuilt m s a b d p q r t =
+    let x : m / 10 / 10 ≡ m / 100 = div-div-eq-div-mul m 10 10 in
+    let y : m / 100 / 10 ≡ m / 1000 = div-div-eq-div-mul m 100 10 in
     omega arith

@@ -1,11 +1,14 @@
 -- An offset by its sign and its milliseconds.
-use Rattle.std.proofs.Common.{◌≡◌, ℕ, ◌-◌, ◌/◌, ◌≤◌, true, List, length, get_or, take, drop, ℤ, pos, negsuc, ◌-ℤ◌, nat_abs, decimal, sym, refl, ap, ◌∙◌, arith, w32, to_z, of_z, leb-true}
+use Rattle.std.proofs.Common.{◌≡◌, ℕ, ◌-◌, ◌/◌, ◌%◌, ◌≤◌, true, List, length, get_or, take, drop, ℤ, pos, negsuc, ◌-ℤ◌, nat_abs, sym, refl, ap, ◌∙◌, arith, w32, to_z, of_z, leb-true, SFits, Option, Some, None}
 use Rattle.std.proofs.lemmas.List.{take_rest, length-append}
 use Rattle.std.proofs.lemmas.Fmt.{length-decimal-le, decimal_injective}
 use Rattle.format.proofs.SecondsTexts.{whole, tenths, hundredths, thousandths, rebuilt}
 use Rattle.std.proofs.lemmas.Int.{ints}
 use Rattle.std.proofs.lemmas.Bool.Decides.{nat_tests}
-use Rattle.format.specs.Offsets.{sign, offset_text, seconds_text, near}
+use Rattle.std.specs.Option.{ok_or}
+use Rattle.disk.specs.declared.fault.Refusal.TheVariants.{NotALine}
+use Rattle.format.specs.Offsets.{sign, offset_text, seconds_text, near, PrintsOffset, ReadsOffset}
+use Rattle.format.proofs.Candidates.{Found}
 
 pub small : (z : ℤ) → near z ≡ true → nat_abs z ≤ 86400000
 small z h = leb-true (nat_abs z) 86400000 h
@@ -26,21 +29,25 @@ pub plus_is : (z : ℤ) (k : ℕ) → 43 ≡ sign z → nat_abs z ≡ k → k �
 plus_is (pos n) k s e h = omega (arith, ints)
 plus_is (negsuc n) k s e h = absurd (omega arith)
 
--- a sign, at most five digits, a point and three digits
-pub length_seconds : (z : ℤ) → near z ≡ true → length (decimal (nat_abs z / 1000)) ≤ 5
-length_seconds z n = let h = small z n in length-decimal-le 5 (nat_abs z / 1000) (omega arith) (omega arith) (omega arith)
+-- a sign, at most seven digits, a point and three digits
+abs_fits : (z : ℤ) → SFits w32 z → nat_abs z ≤ 2147483648
+abs_fits (pos n) h = omega (arith, ints)
+abs_fits (negsuc n) h = omega (arith, ints)
 
-pub length_offset : (z : ℤ) → near z ≡ true → length (offset_text z) ≤ 10
-length_offset z n =
-    let d = length_seconds z n in
+pub length_offset : (z : ℤ) → SFits w32 z → length (offset_text z) ≤ 12
+length_offset z h =
+    let a = abs_fits z h in
+    let d = length-decimal-le 7 (nat_abs z / 1000) (omega arith) (omega arith) (omega arith) in
     simp length-append (omega arith)
 
 -- an offset's text tells the offset
 same_millis : (m k : ℕ) → m ≤ 86400000 → k ≤ 86400000 → seconds_text m ≡ seconds_text k → m ≡ k
 same_millis m k h l e =
     let seconds : m / 1000 ≡ k / 1000 = decimal_injective (m / 1000) (k / 1000) (omega arith) (omega arith) (sym (whole (seconds_text m) m refl) ∙ whole (seconds_text m) k e) in
-    rebuilt m (m / 1000) _ _ _ refl (tenths (seconds_text m) m refl) (hundredths (seconds_text m) m refl) (thousandths (seconds_text m) m refl)
-    ∙ sym (rebuilt k (m / 1000) _ _ _ (sym seconds) (tenths (seconds_text m) k e) (hundredths (seconds_text m) k e) (thousandths (seconds_text m) k e))
+    let x : m / 100 % 10 ≡ k / 100 % 10 = omega (arith, tenths (seconds_text m) m refl, tenths (seconds_text m) k e) in
+    let y : m / 10 % 10 ≡ k / 10 % 10 = omega (arith, hundredths (seconds_text m) m refl, hundredths (seconds_text m) k e) in
+    let z : m % 10 ≡ k % 10 = omega (arith, thousandths (seconds_text m) m refl, thousandths (seconds_text m) k e) in
+    rebuilt m _ _ _ _ seconds x y z ∙ sym (rebuilt k _ _ _ _ refl refl refl refl)
 
 same_signed : (y z : ℤ) → sign y ≡ sign z → nat_abs y ≡ nat_abs z → y ≡ z
 same_signed (pos m) (pos n) s e = ap pos e
@@ -51,3 +58,8 @@ same_signed (negsuc m) (negsuc n) s e = let k : m ≡ n = omega arith in ap negs
 pub same_offset : (y z : ℤ) → near y ≡ true → near z ≡ true → offset_text y ≡ offset_text z → y ≡ z
 same_offset y z h k e =
     same_signed y z (ap (λ u. get_or u 0 0) e) (same_millis (nat_abs y) (nat_abs z) (small y h) (small z k) (ap (drop 1) e))
+
+-- what is found is what reading answers
+pub reads_offset : (text : List ℕ) (r : Option ℤ) → Found (λ z. PrintsOffset z text) r → ReadsOffset text (ok_or r NotALine)
+reads_offset text None none = (refl, none)
+reads_offset text (Some z) found = found

@@ -41,7 +41,7 @@ module _ (m : DiskModel) (n size : ℕ) (x : LeaseRecord) where
   ok_only (Ok u) e o =
       let bytes = accepted_area m n size e in
       let d = placed_ok n (height_above m.height) (decoded (area_after_read m n size)) x o in
-      (e, (exact (block m n).bytes (decoded (block m n).bytes) refl x).0 (ap decoded (sym bytes) ∙ d))
+      (e, (exact (block m n).bytes x).0 (ap decoded (sym bytes) ∙ d))
   ok_only (Err f) e o = absurd (let z : ◌≡◌ {A = ℕ} 0 1 = cc in omega arith)
 
   held_read : Held m n size x → read_answer m n size ≡ Ok x
@@ -49,7 +49,7 @@ module _ (m : DiskModel) (n size : ℕ) (x : LeaseRecord) where
   held_read h =
       ap (λ a. and_then a (placed n (height_above m.height) (area_after_read m n size))) h.0
       ∙ ap (placed n (height_above m.height)) (accepted_area m n size h.0)
-      ∙ ap (placed_at n (height_above m.height)) ((exact (block m n).bytes (decoded (block m n).bytes) refl x).1 h.1)
+      ∙ ap (placed_at n (height_above m.height)) ((exact (block m n).bytes x).1 h.1)
 
   pub reads_exactly : (r : Result LeaseRecord Fault) → r ≡ read_answer m n size → (r ≡ Ok x → Held m n size x) × (Held m n size x → r ≡ Ok x)
   unfolding read_answer

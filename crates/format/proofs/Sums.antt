@@ -1,16 +1,16 @@
-use Rattle.std.proofs.Common.{◌≡◌, ℕ, ◌+◌, ◌*◌, ◌%◌, ◌≤◌, List, ◌∷◌, length, get_or, drop, sym, ap, ◌∙◌, arith}
-use Rattle.std.proofs.lemmas.List.{drop_more}
+use Rattle.std.proofs.Common.{◌≡◌, ℕ, zero, suc, ◌+◌, ◌*◌, ◌%◌, List, [], ◌∷◌, length, get_or, refl, arith}
+use Rattle.std.specs.Simd.{first_chunks}
 use Rattle.format.specs.Blocks.{sums}
 
--- two bytes taken off the front
-two_off : (xs : List ℕ) (i : ℕ) → i + 2 ≤ length xs → drop i xs ≡ get_or xs i 0 ∷ get_or xs (i + 1) 0 ∷ drop (i + 2) xs
-two_off xs i h =
-    drop_more xs i 0 (omega arith)
-    ∙ ap (λ zs. get_or xs i 0 ∷ zs) (drop_more xs (i + 1) 0 (omega arith) ∙ ap (λ n. get_or xs (i + 1) 0 ∷ drop n xs) (omega arith))
+-- s and t after these words of two bytes
+abbrev pub after : List (List ℕ) → ℕ → ℕ → ℕ × ℕ
+after [] s t = (s, t)
+after (word ∷ rest) s t =
+    after rest ((s + (get_or word 0 0 * 256 + get_or word 1 0)) % 65535) ((t + (s + (get_or word 0 0 * 256 + get_or word 1 0)) % 65535) % 65535)
 
--- one word more
-pub sums_step : (xs : List ℕ) (i s t w : ℕ) → i + 2 ≤ length xs → w ≡ get_or xs i 0 * 256 + get_or xs (i + 1) 0
-    → sums (drop i xs) s t ≡ sums (drop (i + 2) xs) ((s + w) % 65535) ((t + (s + w) % 65535) % 65535)
-sums_step xs i s t w h e =
-    ap (λ zs. sums zs s t) (two_off xs i h)
-    ∙ ap (λ v. sums (drop (i + 2) xs) ((s + v) % 65535) ((t + (s + v) % 65535) % 65535)) (sym e)
+pub by_words : (k : ℕ) (xs : List ℕ) (s t : ℕ) → length xs ≡ k + k → after (first_chunks 2 k xs) s t ≡ sums xs s t
+by_words zero [] s t h = refl
+by_words zero (a ∷ xs) s t h = absurd (omega arith)
+by_words (suc k) [] s t h = absurd (omega arith)
+by_words (suc k) (a ∷ []) s t h = absurd (omega arith)
+by_words (suc k) (a ∷ b ∷ xs) s t h = by_words k xs _ _ (omega arith)

@@ -1,5 +1,5 @@
 -- The lease records that there are, the block that each writes, and the record that a block is.
-use Rattle.std.specs.Prelude.{◌≡◌, ℕ, ◌+◌, ◌*◌, ◌%◌, Bool, true, false, cond, ◌&&◌, ◌||◌, List, [], ◌∷◌, ◌++◌, take, drop, replicate, Ok, Err, Result, ◌==◌, nat_le, slice_index}
+use Rattle.std.specs.Prelude.{◌≡◌, ◌≢◌, ℕ, ◌+◌, ◌*◌, ◌%◌, Bool, true, false, cond, ◌&&◌, ◌||◌, List, [], ◌∷◌, ◌++◌, take, drop, replicate, Ok, Err, Result, ◌==◌, nat_le, slice_index}
 use Rattle.disk.specs.declared.fault.Refusal.{Refusal}
 use Rattle.disk.specs.declared.fault.Refusal.TheVariants.{WrongLength, NotARecord}
 use Rattle.disk.specs.Model.{block_length}
@@ -12,6 +12,11 @@ use Rattle.format.specs.Bytes.{bytes_of, number_of}
 abbrev pub kind_number : Kind → ℕ
 kind_number Free = 0
 kind_number Owned = 1
+
+-- the kind of this number, or that no kind has it
+abbrev pub ReadsKind : ℕ → Result Kind Refusal → Type 0
+ReadsKind n (Ok kind) = n ≡ kind_number kind
+ReadsKind n (Err refusal) = (refusal ≡ NotARecord) × ((kind : Kind) → n ≢ kind_number kind)
 
 -- the record of a resource that nobody has claimed yet
 abbrev pub founding : ℕ → LeaseRecord

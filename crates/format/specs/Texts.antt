@@ -1,5 +1,5 @@
 -- Texts in lent buffers.
-use Rattle.std.specs.Prelude.{◌≡◌, ℕ, ◌<◌, ◌≤◌, Bool, cond, List, [], ◌∷◌, ◌++◌, length, take, drop, replicate, Ok, Err, decimal, Result, ◌≢◌, nat_le, slice_index}
+use Rattle.std.specs.Prelude.{◌≡◌, ℕ, ◌≤◌, Bool, cond, List, [], ◌∷◌, ◌++◌, length, drop, replicate, Ok, Err, decimal, Result, ◌≢◌, nat_le}
 use Rattle.std.specs.List.{AllByRecursion}
 use Rattle.disk.specs.declared.fault.Refusal.{Refusal}
 use Rattle.disk.specs.declared.fault.Refusal.TheVariants.{BadValue, BufferShort}
@@ -7,11 +7,11 @@ use Rattle.format.specs.declared.buffer.LineBuffer.{LineBuffer}
 
 -- the text that a line buffer holds
 abbrev pub held : LineBuffer → List ℕ
-held l = take l.len l.bytes
+held l = l.bytes.items
 
--- a line buffer holds at most so many bytes, and drops what comes behind them
-abbrev pub cut : List ℕ → List ℕ
-cut text = take 64 text
+-- a piece comes behind the text so far, if a line buffer has room for both
+abbrev pub Adds : LineBuffer → List ℕ → LineBuffer → Type 0
+Adds old piece new = length (held old ++ piece) ≤ 64 → held new ≡ held old ++ piece
 
 -- a field, a space, and what follows
 abbrev pub spaced : List ℕ → List ℕ → List ℕ
@@ -33,7 +33,3 @@ print_after (Err _) text buffer = replicate (length buffer) 0
 -- no byte is a space
 abbrev pub Spaceless : List ℕ → Type 0
 Spaceless text = AllByRecursion (λ b. b ≢ 32) text
-
--- some digits, at most nine, with no leading zero
-abbrev pub Plain : List ℕ → Type 0
-Plain digits = (0 < length digits) × (length digits ≤ 9) × (slice_index digits 0 ≡ 48 → length digits ≡ 1)

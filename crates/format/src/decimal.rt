@@ -1,34 +1,23 @@
 // Reading numbers in decimal.
-ghost use Rattle.std.specs.Prelude.{◌≡◌, ℕ, ◌^◌, ◌<◌, ◌≤◌, length, decimal, MatchOption, ◌≢◌};
-ghost use Rattle.std.specs.Str.Parse.{AllDigits, digits_value};
+ghost use Rattle.std.specs.Prelude.{◌≡◌, ℕ, ◌^◌, ◌<◌, decimal, MatchOption, ◌≢◌};
 
-// The most digits that a number is read from.
-const MOST_DIGITS: usize = 9;
+use std::str;
 
-// The number that the digits write, if they are all digits.
-fn digits_value(digits: &[u8]) -> Option<u32>
-    requires { length digits.now ≤ 9 }
-    ensures { MatchOption result (AllDigits 10 digits.now → ⊥) (λ n. AllDigits 10 digits.now × (n ≡ digits_value 10 digits.now)) }
+// The most that a number is read as: nine digits.
+const MOST_DECIMAL: u32 = 999_999_999;
+
+// What the library reads, which takes a plus and leading zeros too: if a number is written so, it is this one.
+fn candidate_number(text: &[u8]) -> Option<u32>
+    ensures { MatchOption result ((n : ℕ) → (n < 10 ^ 9) × (text.now ≡ decimal n) → ⊥) (λ k. (n : ℕ) → (n < 10 ^ 9) × (text.now ≡ decimal n) → n ≡ k) }
 {
-    let mut n = 0;
-    for digit in digits {
-        if !digit.is_ascii_digit() {
-            return None;
-        }
-        n = n * 10 + (*digit - b'0') as u32;
-    }
-    Some(n)
+    str::from_utf8(text).ok()?.parse().ok()
 }
 
 // The number of at most nine digits that is written so, with no leading zero.
 pub fn read_decimal(text: &[u8]) -> Option<u32>
     ensures { MatchOption result ((n : ℕ) → n < 10 ^ 9 → text.now ≢ decimal n) (λ n. (n < 10 ^ 9) × (text.now ≡ decimal n)) }
 {
-    if text.is_empty() || text.len() > MOST_DIGITS {
-        return None;
-    }
-    if text[0] == b'0' && text.len() > 1 {
-        return None;
-    }
-    digits_value(text)
+    candidate_number(text).filter(|n| {
+        *n <= MOST_DECIMAL && itoa::Buffer::new().format(*n).as_bytes() == text
+    })
 }

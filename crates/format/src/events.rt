@@ -10,7 +10,8 @@ pub enum Event {
     Crashed,
 }
 
-// The resource and term of a crash are 0, and so is `until` unless the lease was granted or renewed.
+// The resource and term of a crash are 0, and so is `until` unless the lease was granted or renewed. The fields are plain
+// numbers, since callers may fill them with any; `is_printable` says whether they make an entry.
 #[derive(Clone, Copy, PartialEq, Eq, Debug)]
 pub struct LogEntry {
     pub tick: Tick,

@@ -1,4 +1,7 @@
 // The lease record: who owns a resource, or that nobody does.
+ghost use Rattle.format.specs.Blocks.{ReadsKind};
+
+use disk::Refusal;
 
 // Whether the resource is free or owned.
 #[derive(Clone, Copy, PartialEq, Eq, Debug, Default)]
@@ -6,6 +9,21 @@ pub enum Kind {
     #[default]
     Free = 0,
     Owned = 1,
+}
+
+// The kind of this number; no other number than 0 and 1 has one.
+impl TryFrom<u8> for Kind {
+    type Error = Refusal;
+
+    ghost try_from_gives = { ReadsKind };
+
+    fn try_from(number: u8) -> Result<Kind, Refusal> {
+        match number {
+            0 => Ok(Kind::Free),
+            1 => Ok(Kind::Owned),
+            _ => Err(Refusal::NotARecord),
+        }
+    }
 }
 
 // A mark names one write: the host that issued it, in which of its generations, and with which stamp.

@@ -1,11 +1,10 @@
 // Clock offsets as text.
-ghost use Rattle.std.specs.Prelude.{◌≡◌, ℕ, ◌≤◌, true, ◌++◌, length, ℤ, Decides, MatchOption, ◌≢◌};
-ghost use Rattle.format.specs.Texts.{held, cut, print_answer, print_after};
+ghost use Rattle.std.specs.Prelude.{◌≡◌, ℕ, ◌+◌, ◌<◌, ◌≤◌, length, ℤ, MatchOption, ◌≢◌};
+ghost use Rattle.format.specs.Texts.{held, Adds, print_answer, print_after};
 ghost use Rattle.format.specs.Offsets.{near, sign, seconds_text, offset_text, PrintsOffset, ReadsOffset};
 
 use crate::buffer::LineBuffer;
 use crate::decimal::read_decimal;
-use crate::text::same_text;
 use disk::Refusal;
 
 // A clock is at most a day off, either way, in milliseconds.
@@ -27,7 +26,7 @@ fn sign_byte(offset: i32) -> u8
 
 // Adds an offset to a line.
 pub(crate) fn push_offset(line: &mut LineBuffer, offset: i32)
-    ensures { held line.new ≡ cut (held line.old ++ offset_text offset) }
+    ensures { Adds line.old (offset_text offset) line.new }
 {
     line.push(sign_byte(offset));
     let millis = offset.unsigned_abs();
@@ -38,8 +37,8 @@ pub(crate) fn push_offset(line: &mut LineBuffer, offset: i32)
     line.push(b'0' + (millis % 10) as u8);
 }
 
+// The text of an offset, which may be of any value.
 fn offset_line(offset: i32) -> LineBuffer
-    requires { near offset ≡ true }
     ensures { held result ≡ offset_text offset }
 {
     let mut line = LineBuffer::new();
@@ -59,6 +58,13 @@ pub fn print_offset(offset: i32, buffer: &mut [u8]) -> Result<usize, Refusal>
     offset_line(offset).copy_to(buffer)
 }
 
+// The value of a decimal digit.
+fn digit(byte: u8) -> Option<u32>
+    ensures { MatchOption result ((d : ℕ) → d < 10 → byte ≢ 48 + d) (λ d. (d < 10) × (byte ≡ 48 + d)) }
+{
+    char::from(byte).to_digit(10)
+}
+
 // The milliseconds that whole seconds, a point and three digits write, if they are written so.
 fn candidate_millis(text: &[u8]) -> Option<u32>
     ensures { MatchOption result ((m : ℕ) → m ≤ 86400000 → text.now ≢ seconds_text m) (λ k. (k ≤ 999999999) × ((m : ℕ) → m ≤ 86400000 → text.now ≡ seconds_text m → m ≡ k)) }
@@ -66,14 +72,11 @@ fn candidate_millis(text: &[u8]) -> Option<u32>
     let [whole @ .., _, x, y, z] = text else {
         return None;
     };
-    if !x.is_ascii_digit() || !y.is_ascii_digit() || !z.is_ascii_digit() {
-        return None;
-    }
     let seconds = read_decimal(whole)?;
     if seconds > MOST_OFFSET / 1000 {
         return None;
     }
-    Some(seconds * 1000 + (*x - b'0') as u32 * 100 + (*y - b'0') as u32 * 10 + (*z - b'0') as u32)
+    Some(seconds * 1000 + digit(*x)? * 100 + digit(*y)? * 10 + digit(*z)?)
 }
 
 // The offset that a sign and the milliseconds behind it write, if they are written so.
@@ -93,26 +96,11 @@ pub(crate) fn candidate_offset(text: &[u8]) -> Option<i32>
     }
 }
 
-// Whether a text is what printing the offset gives.
-fn is_text_of(text: &[u8], offset: i32) -> bool
-    requires { near offset ≡ true }
-    ensures { Decides result (text.now ≡ offset_text offset) }
-{
-    same_text(text, offset_line(offset).text())
-}
-
 // The offset that prints so.
 pub fn read_offset(text: &[u8]) -> Result<i32, Refusal>
     ensures { ReadsOffset text.now result }
 {
-    let Some(offset) = candidate_offset(text) else {
-        return Err(Refusal::NotALine);
-    };
-    if !is_offset(offset) {
-        return Err(Refusal::NotALine);
-    }
-    if !is_text_of(text, offset) {
-        return Err(Refusal::NotALine);
-    }
-    Ok(offset)
+    candidate_offset(text)
+        .filter(|offset| is_offset(*offset) && offset_line(*offset).text() == text)
+        .ok_or(Refusal::NotALine)
 }

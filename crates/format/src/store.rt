@@ -10,14 +10,7 @@ use disk::{AreaGuard, Disk, Fault};
 fn judge(bytes: &[u8], resource: usize, height: u8) -> Result<LeaseRecord, Fault>
     ensures { result ≡ placed resource height bytes.now }
 {
-    match LeaseRecord::decode(bytes) {
-        Ok(lease) => Ok(lease),
-        Err(cause) => Err(Fault {
-            cause,
-            number: resource,
-            height,
-        }),
-    }
+    LeaseRecord::decode(bytes).map_err(|cause| cause.at(resource, height))
 }
 
 // Reads the record of a resource; the area is all zero afterwards, whatever comes.
@@ -35,11 +28,11 @@ pub fn read_record<D: Disk>(
     let height = disk.height().saturating_add(1);
     disk.read(resource, area)?;
     let guard = AreaGuard::new(area);
-    let lease = judge(guard.bytes(), resource, height)?;
-    Ok(lease)
+    judge(guard.bytes(), resource, height)
 }
 
 // Writes a record to the block of its resource; the area is all zero afterwards, whatever comes.
+#[tactic(auto, unfolding(crate::specs::Stores::write_answer, crate::specs::Stores::after_record))]
 pub fn write_record<D: Disk>(disk: &mut D, lease: LeaseRecord, area: &mut [u8]) -> Result<(), Fault>
     ensures answer { result ≡ write_answer (D.Disk.meaning disk.old) lease (length area.old) }
     ensures disk { D.Disk.meaning disk.new ≡ after_record (D.Disk.meaning disk.old) lease (length area.old) }
@@ -47,13 +40,7 @@ pub fn write_record<D: Disk>(disk: &mut D, lease: LeaseRecord, area: &mut [u8]) 
     ensures area { area.new ≡ replicate (length area.old) 0 }
 {
     let height = disk.height().saturating_add(1);
-    if let Err(cause) = lease.encode(area) {
-        return Err(Fault {
-            cause,
-            number: 0,
-            height,
-        });
-    }
+    lease.encode(area).map_err(|cause| cause.at(0, height))?;
     let written = disk.write(lease.resource as usize, area);
     area.fill(0);
     written

@@ -1,8 +1,11 @@
-// Making a line of text piece by piece; what does not fit any more is dropped.
-ghost use Rattle.std.specs.Prelude.{◌≡◌, ◌≤◌, true, [], ◌∷◌, ◌++◌, length, decimal, Decides};
-ghost use Rattle.format.specs.Texts.{held, cut, spaced, number_or_dash, print_answer, print_after};
+// Making a line of text piece by piece. A piece that does not fit any more is dropped, so that no function that makes
+// a line has to speak of room; that no piece is dropped follows once, from the length of a whole line. Pieces are pushed
+// and not written by `write!`, since what `write!` promises for any writer leaves open whether it succeeds.
+ghost use Rattle.std.specs.Prelude.{◌≡◌, true, [], ◌∷◌, length, decimal, is_some, unwrap_or};
+ghost use Rattle.format.specs.Texts.{held, Adds, spaced, number_or_dash, print_answer, print_after};
 
-use crate::buffer::{LINE_LENGTH, LineBuffer};
+use crate::buffer::LineBuffer;
+use arrayvec::ArrayVec;
 use disk::Refusal;
 
 impl LineBuffer {
@@ -10,58 +13,37 @@ impl LineBuffer {
         ensures { held result ≡ [] }
     {
         LineBuffer {
-            bytes: [0; 64],
-            len: 0,
+            bytes: ArrayVec::new(),
         }
     }
 
     pub(crate) fn push(&mut self, byte: u8)
-        ensures { held self.new ≡ cut (held self.old ++ byte ∷ []) }
+        ensures { Adds self.old (byte ∷ []) self.new }
     {
-        let at = self.len;
-        if at >= LINE_LENGTH {
-            return;
-        }
-        self.bytes[at] = byte;
-        self.len = at + 1;
+        let _ = self.bytes.try_push(byte);
     }
 
     pub(crate) fn push_all(&mut self, text: &[u8])
-        ensures { held self.new ≡ cut (held self.old ++ text.now) }
+        ensures { Adds self.old text.now self.new }
     {
-        for byte in text {
-            self.push(*byte);
-        }
+        let _ = self.bytes.try_extend_from_slice(text);
     }
 
     // A number in decimal.
     pub(crate) fn push_decimal(&mut self, n: u32)
-        ensures { held self.new ≡ cut (held self.old ++ decimal n) }
+        ensures { Adds self.old (decimal n) self.new }
     {
-        if n < 10 {
-            self.push(b'0' + n as u8);
-            return;
-        }
-        self.push_decimal(n / 10);
-        self.push(b'0' + (n % 10) as u8);
+        self.push_all(itoa::Buffer::new().format(n).as_bytes());
     }
 
-    // A number, or a minus where it does not apply.
-    fn push_number_or_dash(&mut self, applies: bool, n: u32)
-        ensures { held self.new ≡ cut (held self.old ++ number_or_dash applies n) }
+    // A number, or a minus where it does not apply, and a space.
+    pub(crate) fn push_field(&mut self, field: Option<u32>)
+        ensures { Adds self.old (spaced (number_or_dash (is_some field) (unwrap_or field 0)) []) self.new }
     {
-        if applies {
-            self.push_decimal(n);
-            return;
+        match field {
+            Some(n) => self.push_decimal(n),
+            None => self.push(b'-'),
         }
-        self.push(b'-');
-    }
-
-    // The same, and a space.
-    pub(crate) fn push_field(&mut self, applies: bool, n: u32)
-        ensures { held self.new ≡ cut (held self.old ++ spaced (number_or_dash applies n) []) }
-    {
-        self.push_number_or_dash(applies, n);
         self.push(b' ');
     }
 
@@ -69,7 +51,7 @@ impl LineBuffer {
     pub(crate) fn text(&self) -> &[u8]
         ensures { result.now ≡ held self.now }
     {
-        &self.bytes[0..self.len]
+        self.bytes.as_slice()
     }
 
     // Copies the text to the front of a buffer; one that is too short is zeroed.
@@ -77,19 +59,13 @@ impl LineBuffer {
         ensures answer { result ≡ print_answer true (held self.now) (length buffer.old) }
         ensures buffer { buffer.new ≡ print_after result (held self.now) buffer.old }
     {
-        let len = self.len;
+        let text = self.text();
+        let len = text.len();
         if buffer.len() < len {
             buffer.fill(0);
             return Err(Refusal::BufferShort);
         }
-        buffer[0..len].copy_from_slice(&self.bytes[0..len]);
+        buffer[..len].copy_from_slice(text);
         Ok(len)
     }
-}
-
-// Whether two texts are the same.
-pub(crate) fn same_text(a: &[u8], b: &[u8]) -> bool
-    ensures { Decides result (a.now ≡ b.now) }
-{
-    a == b
 }

@@ -1,8 +1,9 @@
-use Rattle.format.proofs.Fields.{number_is, number_none}
+use Rattle.std.proofs.Common.{rules}
+use Rattle.format.proofs.Fields.{number_is, dash_is}
 use Rattle.format.proofs.line.number_in.Goals as goal
 
-pub returns-in-Some : goal.returns-in-Some
-returns-in-Some c applies n h zero e = number_is applies n c.in-Some.n c.args.field.now h zero e c.in-Some.ensures
+pub returns-then-eq : goal.returns-then-eq
+returns-then-eq c = dash_is c.args.field.now (search rules)
 
-pub returns-in-None : goal.returns-in-None
-returns-in-None c applies n h zero e = number_none applies n c.args.field.now h zero e c.in-None.ensures
+pub returns : goal.returns
+returns c = number_is c.args.field.now c.read_decimal.result (λ e. search rules) c.read_decimal.ensures

@@ -1,17 +1,18 @@
-use Rattle.std.proofs.Common.{◌≡◌, ◌+◌, ◌-◌, take, ap, ◌∙◌, arith}
-use Rattle.std.proofs.lemmas.List.{take_rest}
-use Rattle.format.proofs.Fields.{within, field_is, rest_is}
+use Rattle.std.proofs.Common.{◌≡◌, ◌∷◌, ℕ, ◌+◌, length, take, drop, sym, ap, ◌∙◌, arith}
+use Rattle.std.proofs.lemmas.List.{take_rest, take_at}
+use Rattle.format.proofs.Fields.{position_is, rest_at}
 use Rattle.format.proofs.line.split_field.Goals as goal
 
-pub returns-then-n-text : goal.returns-then-n-text
-returns-then-n-text c x y free e =
-    absurd (let w = within c.args.text.now x y c.field_length-n.result free e c.field_length-n.ensures.before c.field_length-n.ensures.ends in omega arith)
+pub returns-in_err-end : goal.returns-in_err-end
+returns-in_err-end c =
+    let none = c.in_err-end.ensures in
+    rw c.from_residual.ensures (λ x y free e. let some = position_is c.args.text.now x y free e in absurd (let z : ◌≡◌ {A = ℕ} 0 1 = cc in omega arith))
 
 pub returns : goal.returns
 returns c x y free e =
     let text = c.args.text.now in
-    let n = c.field_length-n.result in
-    let all : n - 0 ≡ n = omega arith in (
-      ap (λ k. take k text) all ∙ field_is text x y n free e c.field_length-n.ensures.before c.field_length-n.ensures.ends,
-      take_rest text (n + 1) ∙ rest_is text x y n free e c.field_length-n.ensures.before c.field_length-n.ensures.ends,
-    )
+    let end = c.in_ok-end.end in
+    let some = c.in_ok-end.ensures in
+    let here = position_is text x y free e in
+    let n : end ≡ length x = cc in
+    (ap (take end) e ∙ take_at x (32 ∷ y) end (sym n), take_rest text (end + 1) ∙ ap (drop (end + 1)) e ∙ rest_at x y end n)

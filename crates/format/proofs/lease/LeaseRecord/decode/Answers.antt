@@ -1,13 +1,12 @@
-use Rattle.std.proofs.Common.{sym}
-use Rattle.format.proofs.Decoding.{decodes, refuses, exact}
+use Rattle.std.proofs.Common.{◌≡◌, sym, ◌∙◌, rules}
+use Rattle.format.specs.Blocks.{Written, decoded}
+use Rattle.format.proofs.Candidates.{checked}
+use Rattle.format.proofs.Decoding.{found, exact}
 use Rattle.format.proofs.lease.LeaseRecord.decode.Goals as goal
 
-pub returns-in-Some : goal.returns-in-Some
-returns-in-Some c =
-    let e = sym (decodes c.in-Some.lease c.args.bytes.now c.in-Some.ensures) in
-    record { answer = e; exact = exact c.args.bytes.now _ e }
-
-pub returns-in-None : goal.returns-in-None
-returns-in-None c =
-    let e = sym (refuses c.args.bytes.now c.in-None.ensures) in
-    record { answer = e; exact = exact c.args.bytes.now _ e }
+pub returns : goal.returns
+returns c =
+    let bytes = c.args.bytes.now in
+    let meant = checked (λ x. Written x bytes) c.fields.result c.filter.result _ c.fields.ensures c.filter.ensures (λ y b p. search rules) in
+    let e : c.ok_or.result ≡ decoded bytes = c.ok_or.ensures.value ∙ found bytes c.filter.result meant in
+    record { answer = e; exact = λ x. (λ o. (exact bytes x).0 (sym e ∙ o), λ w. e ∙ (exact bytes x).1 w) }
