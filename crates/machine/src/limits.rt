@@ -10,16 +10,11 @@ impl Settings {
     pub fn new(hosts: usize, resources: usize, delay: u32, lease: u32) -> Result<Settings, Refusal>
         ensures { MakesSettings hosts resources delay lease result }
     {
-        if hosts < 1 || hosts > 16 {
-            return Err(Refusal::BadValue);
-        }
-        if resources < 1 || resources > 8 {
-            return Err(Refusal::BadValue);
-        }
-        if delay < 1 || delay > 1000 {
-            return Err(Refusal::BadValue);
-        }
-        if lease < 2 * delay + 2 || lease > 60_000 {
+        let within = (1..=16).contains(&hosts)
+            && (1..=8).contains(&resources)
+            && (1..=1000).contains(&delay)
+            && (2 * delay + 2..=60_000).contains(&lease);
+        if !within {
             return Err(Refusal::BadValue);
         }
         Ok(Settings {

@@ -47,21 +47,22 @@ pub struct Flight {
     pub issued: Tick,
 }
 
-// What a try answers.
+// What a try answers; no `Option<Mark>`, since what it answers without a mark is that it watches.
 #[derive(Clone, Copy, PartialEq, Eq, Debug)]
 pub enum Tried {
     Watching,
     Claimed(Mark),
 }
 
-// What a check answers: the lease with its term, until a reading of the host's clock, or that the claim was overwritten.
+// What a check answers: the lease with its term, until a reading of the host's clock, or that the claim was overwritten;
+// no `Result`, since a check that answers so was not refused.
 #[derive(Clone, Copy, PartialEq, Eq, Debug)]
 pub enum Checked {
     Granted { term: u32, until: Reading },
     Stolen,
 }
 
-// What a confirm answers.
+// What a confirm answers; no `Result`, since a confirm that answers `Stolen` was not refused.
 #[derive(Clone, Copy, PartialEq, Eq, Debug)]
 pub enum Confirmed {
     Renewed,
