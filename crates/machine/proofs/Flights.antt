@@ -7,8 +7,6 @@ use Rattle.machine.specs.Seats.{same_mark}
 use Rattle.machine.specs.Writes.{find, removed}
 use Rattle.machine.specs.Setup.{younger}
 use Rattle.machine.specs.View.{In, here, there}
-use Rattle.machine.proofs.Clash.{clash}
-use Rattle.machine.specs.Holding.{late}
 use Rattle.machine.proofs.Same.{mark_same, mark_self}
 
 -- no two writes in flight have one mark
@@ -36,7 +34,7 @@ in_cons g f ys fs n (there i) = there (n i)
 -- the write that a mark names, and what is left without it
 module _ (m : Mark) where
   pub find_in : (f : Flight) (fs : List Flight) → find m fs ≡ Some f → In f fs × (f.body.mark ≡ m)
-  find_in f [] e = clash (cc)
+  find_in f [] e = cc
   find_in f (g ∷ fs) e = go (find_in f fs) (same_mark g.body.mark m) refl
     where
       go : (find m fs ≡ Some f → In f fs × (f.body.mark ≡ m)) → (b : Bool) → same_mark g.body.mark m ≡ b → In f (g ∷ fs) × (f.body.mark ≡ m)
@@ -73,7 +71,7 @@ module _ (m : Mark) where
       (λ e i. other f (removed m fs) e n i)
     where
       other : (f : Flight) (ys : List Flight) → same_mark f.body.mark m ≡ false → (In g ys → g.body.mark ≡ m → ⊥) → In g (f ∷ ys) → g.body.mark ≡ m → ⊥
-      other f ys e n here same = let t = mark_self f.body.mark m same in clash (cc)
+      other f ys e n here same = let t = mark_self f.body.mark m same in cc
       other f ys e n (there i) same = n i same
 
 -- the writes that have not run out of time

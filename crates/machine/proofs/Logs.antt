@@ -4,7 +4,6 @@ use Rattle.std.proofs.lemmas.Bool.{cond-true, cond-false, cases_Bool}
 use Rattle.format.specs.declared.events.LogEntry.{LogEntry}
 use Rattle.machine.specs.Soundness.{begins, ends, NoneAfter, Names}
 use Rattle.machine.specs.View.{Owner, nobody, lasting, ended, named_by, owner, grant_of, highest}
-use Rattle.machine.proofs.Clash.{clash}
 
 -- entries after which h is still named
 still_named : (es : List LogEntry) (h u r : ℕ) → NoneAfter es h r → owner (lasting h u) es r ≡ lasting h u
@@ -45,9 +44,9 @@ cause o (x ∷ log) r h u e = go (cause (named_by o x r) log r h u e)
     ]
       where
         older : (p : Owner) → ended x r p ≡ lasting h u → begins x r ≡ false → NoneAfter log h r → Cause p (x ∷ log) r h u
-        older nobody q b n = clash (cc)
+        older nobody q b n = cc
         older (lasting g v) q b n = elim (cases_Bool (ends x g r)) [
-          | inl d ↦ clash (let y = cond-true (ends x g r) nobody (lasting g v) d in cc)
+          | inl d ↦ let y = cond-true (ends x g r) nobody (lasting g v) d in cc
           | inr d ↦ let y : lasting g v ≡ lasting h u = sym (cond-false (ends x g r) nobody (lasting g v) d) ∙ q in let z : g ≡ h = cc in before y (b, ap (λ (i : ℕ). ends x i r) (sym z) ∙ d, n)
         ]
 
@@ -56,7 +55,7 @@ pub owner_names : (log : List LogEntry) (r t h u : ℕ) → owner nobody log r �
 owner_names log r t h u e late = go (cause nobody log r h u e)
   where
     go : Cause nobody log r h u → Names log r t h
-    go (before is n) = clash (cc)
+    go (before is n) = cc
     go (within front x back is begin host until n) = (front, x, back, is, begin, host, omega arith, n)
 
 -- a log with one entry more

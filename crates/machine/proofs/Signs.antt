@@ -8,7 +8,6 @@ use Rattle.machine.specs.Outcomes.{gate, room_fault, standing}
 use Rattle.machine.specs.Seats.{Hold, hold}
 use Rattle.machine.specs.Holding.{late, signs, sign_by, sign_call}
 use Rattle.machine.specs.Soundness.{Holds}
-use Rattle.machine.proofs.Clash.{clash}
 use Rattle.machine.proofs.Times.{below_until}
 use Rattle.machine.proofs.Tests.{AllFalse, gate_passes, gate_cases}
 
@@ -24,13 +23,13 @@ sign_answers m h r x n e soon =
 -- whom sign answers a term holds
 pub sign_holds : (m : Room) (h r k : ℕ) → sign_call m h r ≡ Ok k → Holds m h r
 sign_holds m h r k e = elim (gate_cases m (standing m h r)) [
-  | inl y ↦ clash (let z = ap (sign_by m h r) y.1 in cc)
+  | inl y ↦ let z = ap (sign_by m h r) y.1 in cc
   | inr y ↦ seat (hold (seat_at m h r)) refl (sym (ap (sign_by m h r) (gate_passes m (standing m h r) y)) ∙ e)
 ]
   where
     seat : (y : Option Hold) → hold (seat_at m h r) ≡ y → seat_sign m h y ≡ Ok k → Holds m h r
-    seat None is o = clash (cc)
+    seat None is o = cc
     seat (Some x) is o = elim (gate_cases m (late m h x ∷ [])) [
-      | inl y ↦ clash (let z = ap (signs m h x) y.1 in cc)
+      | inl y ↦ let z = ap (signs m h x) y.1 in cc
       | inr y ↦ (x, is, below_until x.until (reading m h) y.0)
     ]
