@@ -10,18 +10,16 @@ impl Settings {
     pub fn new(hosts: usize, resources: usize, delay: u32, lease: u32) -> Result<Settings, Refusal>
         ensures { MakesSettings hosts resources delay lease result }
     {
-        let within = (1..=16).contains(&hosts)
-            && (1..=8).contains(&resources)
-            && (1..=1000).contains(&delay)
-            && (2 * delay + 2..=60_000).contains(&lease);
-        if !within {
-            return Err(Refusal::BadValue);
+        match (hosts, resources, delay) {
+            (1..=16, 1..=8, 1..=1000) if (2 * delay + 2..=60_000).contains(&lease) => {
+                Ok(Settings {
+                    hosts,
+                    resources,
+                    delay,
+                    lease,
+                })
+            }
+            _ => Err(Refusal::BadValue),
         }
-        Ok(Settings {
-            hosts,
-            resources,
-            delay,
-            lease,
-        })
     }
 }
