@@ -1,5 +1,5 @@
 -- Whom a log names, by its entries and by what they leave.
-use Rattle.std.proofs.Common.{◌≡◌, ℕ, ◌<◌, max, true, false, List, [], ◌∷◌, ◌++◌, sym, refl, ap, ◌∙◌, inl, inr, arith}
+use Rattle.std.proofs.Common.{◌≡◌, ℕ, ◌<◌, max, Bool, true, false, List, [], ◌∷◌, ◌++◌, sym, refl, ap, ◌∙◌, inl, inr, arith}
 use Rattle.std.proofs.lemmas.Bool.{cond-true, cond-false, cases_Bool}
 use Rattle.format.specs.declared.events.LogEntry.{LogEntry}
 use Rattle.machine.specs.Soundness.{begins, ends, NoneAfter, Names}
@@ -26,6 +26,15 @@ names_owner log r t h (front, e, back, is, begin, host, late, n) = (
   late,
 )
 
+-- who is named after an entry that begins nothing was named before it, and it does not end that
+pub ended_back : (e : LogEntry) (r : ℕ) (o : Owner) (h u : ℕ) → ended e r o ≡ lasting h u → (o ≡ lasting h u) × (ends e h r ≡ false)
+ended_back e r nobody h u n = cc
+ended_back e r (lasting g v) h u n = go (ends e g r) refl
+  where
+    go : (b : Bool) → ends e g r ≡ b → (lasting g v ≡ lasting h u) × (ends e h r ≡ false)
+    go true i = cc
+    go false i = (cc, let j : g ≡ h = cc in rw j at i)
+
 -- how a log came to name h
 data Cause (o : Owner) (log : List LogEntry) (r h u : ℕ) : Type 0 where
   before : o ≡ lasting h u → NoneAfter log h r → Cause o log r h u
@@ -40,15 +49,8 @@ cause o (x ∷ log) r h u e = go (cause (named_by o x r) log r h u e)
     go (within front y back is begin host until n) = within (x ∷ front) y back (ap (λ (es : List LogEntry). x ∷ es) is) begin host until n
     go (before is n) = elim (cases_Bool (begins x r)) [
       | inl b ↦ let q : lasting x.host x.until.0 ≡ lasting h u = sym (cond-true (begins x r) (lasting x.host x.until.0) (ended x r o) b) ∙ is in within [] x log refl b (cc) (cc) n
-      | inr b ↦ older o (sym (cond-false (begins x r) (lasting x.host x.until.0) (ended x r o) b) ∙ is) b n
+      | inr b ↦ let p = ended_back x r o h u (sym (cond-false (begins x r) (lasting x.host x.until.0) (ended x r o) b) ∙ is) in before p.0 (b, p.1, n)
     ]
-      where
-        older : (p : Owner) → ended x r p ≡ lasting h u → begins x r ≡ false → NoneAfter log h r → Cause p (x ∷ log) r h u
-        older nobody q b n = cc
-        older (lasting g v) q b n = elim (cases_Bool (ends x g r)) [
-          | inl d ↦ let y = cond-true (ends x g r) nobody (lasting g v) d in cc
-          | inr d ↦ let y : lasting g v ≡ lasting h u = sym (cond-false (ends x g r) nobody (lasting g v) d) ∙ q in let z : g ≡ h = cc in before y (b, ap (λ (i : ℕ). ends x i r) (sym z) ∙ d, n)
-        ]
 
 -- whom the entries leave is whom they name
 pub owner_names : (log : List LogEntry) (r t h u : ℕ) → owner nobody log r ≡ lasting h u → t < u → Names log r t h

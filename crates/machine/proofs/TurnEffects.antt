@@ -12,6 +12,7 @@ use Rattle.machine.specs.Soundness.{begins, ends}
 use Rattle.machine.specs.Moves.{vacant, Turn, Unlogged, Logged, Unsent, Sent}
 use Rattle.machine.proofs.Core.{Known, New, HeldUntil, Core}
 use Rattle.machine.proofs.Flights.{in_push}
+use Rattle.machine.proofs.Logs.{ended_back}
 use Rattle.machine.proofs.Step.{Issued, Claims, Holding, Granting, kept, Course, Step}
 
 -- which kind a seat is of
@@ -39,31 +40,9 @@ unended : (e : LogEntry) (r : ℕ) (o : Owner) → ((h : ℕ) → ends e h r ≡
 unended e r nobody n = refl
 unended e r (lasting h u) n = cond-false (ends e h r) nobody (lasting h u) (n h)
 
--- who is still named after an entry that begins nothing
-ended_back : (e : LogEntry) (r : ℕ) (o : Owner) (h u : ℕ) → ended e r o ≡ lasting h u → (o ≡ lasting h u) × (ends e h r ≡ false)
-ended_back e r nobody h u n = cc
-ended_back e r (lasting g v) h u n = go (ends e g r) refl
-  where
-    go : (b : Bool) → ends e g r ≡ b → (lasting g v ≡ lasting h u) × (ends e h r ≡ false)
-    go true i = cc
-    go false i = (cc, let j : g ≡ h = cc in rw j at i)
-
-module _ {V W : View} {e : LogEntry} (l : Logged V W e) (r : ℕ) where
-  -- a lease begins: its host is named
-  pub begun_here : begins e r ≡ true → W.named r ≡ lasting e.host e.until.0
-  begun_here b = l.names r ∙ cond-true (begins e r) (lasting e.host e.until.0) (ended e r (V.named r)) b
-
-  -- the others are named as before
-  pub begun_else : begins e r ≡ false → ((h : ℕ) → ends e h r ≡ false) → W.named r ≡ V.named r
-  begun_else b n = l.names r ∙ cond-false (begins e r) (lasting e.host e.until.0) (ended e r (V.named r)) b ∙ unended e r (V.named r) n
-
-  -- a lease ends: whoever is still named was so before, and it is not the one that ended
-  pub over_back : (h u : ℕ) → begins e r ≡ false → W.named r ≡ lasting h u → (V.named r ≡ lasting h u) × (ends e h r ≡ false)
-  over_back h u b n = ended_back e r (V.named r) h u (sym (cond-false (begins e r) (lasting e.host e.until.0) (ended e r (V.named r)) b) ∙ sym (l.names r) ∙ n)
-
-  -- and whoever it did not end is still named
-  pub over_on : (h u : ℕ) → begins e r ≡ false → V.named r ≡ lasting h u → ends e h r ≡ false → W.named r ≡ lasting h u
-  over_on h u b n i = l.names r ∙ cond-false (begins e r) (lasting e.host e.until.0) (ended e r (V.named r)) b ∙ ap (ended e r) n ∙ cond-false (ends e h r) nobody (lasting h u) i
+-- an entry that begins no lease of r ends one, or none
+past : {V W : View} {e : LogEntry} → Logged V W e → (r : ℕ) → begins e r ≡ false → W.named r ≡ ended e r (V.named r)
+past {V} {e = e} l r b = l.names r ∙ cond-false (begins e r) (lasting e.host e.until.0) (ended e r (V.named r)) b
 
 -- what is in flight was so before or was issued just now, and no stamp is forgotten
 pub record Sending (s : Settings) (V W : View) : Type 0 where
@@ -144,13 +123,13 @@ module _ {V W : View} {h r : ℕ} {x : Place} (t : Turn V W h r x) where
 -- leases end: each seat is idle now and its lease ended by the entry, or it is as it was
 pub over_step : {s : Settings} {V W : View} {e : LogEntry} → Logged V W e → Course s V W → ((q : ℕ) → begins e q ≡ false) → ((q : ℕ) → grant_of e q ≡ 0)
     → ((g q : ℕ) → ((W.seat g q ≡ idle) × (ends e g q ≡ true)) ⊎ ((W.seat g q ≡ V.seat g q) × (ends e g q ≡ false))) → Step s V W
-over_step l course none ungranted seats = record {
+over_step {V = V} {e = e} l course none ungranted seats = record {
   course = course;
   watches = λ {g} {q} y. elim (seats g q) [ inl d ↦ cc | inr d ↦ inl (sym d.0 ∙ y) ];
   claims = λ {h = g} {r = q} y. elim (seats g q) [ inl d ↦ cc | inr d ↦ inl (sym d.0 ∙ y) ];
-  holds = λ {h = g} {r = q} {u = u} y. elim (seats g q) [ inl d ↦ cc | inr d ↦ kept (sym d.0 ∙ y) (λ _ m. over_on l q g u (none q) m d.1) ];
+  holds = λ {h = g} {r = q} {u = u} y. elim (seats g q) [ inl d ↦ cc | inr d ↦ kept (sym d.0 ∙ y) (λ _ m. past l q (none q) ∙ ap (ended e q) m ∙ cond-false (ends e g q) nobody (lasting g u) d.1) ];
   tops = λ q. inl (omega (arith, l.tops q, ungranted q));
-  names = λ {r = q} {h = g} {u} y. let b = over_back l q g u (none q) y in inl (b.0, λ o. elim (seats g q) [ inl d ↦ let n = b.1 in cc | inr d ↦ (o.0, o.1, d.0 ∙ o.2) ]);
+  names = λ {r = q} {h = g} {u} y. let b = ended_back e q (V.named q) g u (sym (past l q (none q)) ∙ y) in inl (b.0, λ o. elim (seats g q) [ inl d ↦ let n = b.1 in cc | inr d ↦ (o.0, o.1, d.0 ∙ o.2) ]);
 }
 
 -- a turn that ends a lease
@@ -191,7 +170,7 @@ begun_step {s} {V} {W} {e} {k} l c t n is not only new tops = record {
 }
   where
     here : W.named e.resource ≡ lasting e.host e.until.0
-    here = begun_here l e.resource (is e.resource ∙ eq-eqb e.resource e.resource refl)
+    here = let r = e.resource in l.names r ∙ cond-true (begins e r) (lasting e.host e.until.0) (ended e r (V.named r)) (is r ∙ eq-eqb r r refl)
 
     others : (q : ℕ) → (q ≡ e.resource → ⊥) → W.named q ≡ V.named q
-    others q d = begun_else l q (is q ∙ ne_eqb e.resource q (λ y. d (sym y))) (λ g. not g q)
+    others q d = past l q (is q ∙ ne_eqb e.resource q (λ y. d (sym y))) ∙ unended e q (V.named q) (λ g. not g q)

@@ -14,7 +14,7 @@ use Rattle.machine.specs.View.{In, view}
 use Rattle.machine.specs.Moves.{Gone, Move}
 use Rattle.machine.proofs.Blocks.{touches, writing_elim}
 use Rattle.machine.proofs.Records.{reads_back, spoiled}
-use Rattle.machine.proofs.Flights.{find_in, removed_in, removed_apart, removed_gone, removed_stays, younger_in, younger_stays, younger_apart}
+use Rattle.machine.proofs.Flights.{find_in, removed_in, removed_apart, removed_stays, younger_in, younger_stays, younger_apart}
 use Rattle.machine.proofs.Tests.{unless_elim, by_option}
 use Rattle.machine.proofs.Shape.{Flying, Inv, Kept}
 use Rattle.machine.proofs.Kept.{kept_same, still_of, moved_on, moved_kept, failed_kept, written_as}
@@ -40,13 +40,13 @@ module _ (w : World) (x : Mark) (f : Flight) (i : Inv w) (e : find x w.room.flig
   was = find_in x f w.room.flights e
 
   flying_without : Flying w.room.settings (removed x w.room.flights)
-  flying_without = record { apart = removed_apart x w.room.flights i.shape.flying.apart; valid = λ g n. i.shape.flying.valid g (removed_in x g w.room.flights n) }
+  flying_without = let a = i.shape.flying.apart in record { apart = removed_apart x w.room.flights a; valid = λ g n. i.shape.flying.valid g (removed_in x g w.room.flights a n).0 }
 
   gone_of : (d : DiskModel) → Gone (view w) (view (moved_on w d w.room.tick (removed x w.room.flights))) f
   unfolding view
   gone_of d = record {
     was = was.0;
-    flights = λ g n. (removed_in x g w.room.flights n, λ same. removed_gone x g w.room.flights i.shape.flying.apart n (same ∙ was.1));
+    flights = λ g n. let j = removed_in x g w.room.flights i.shape.flying.apart n in (j.0, λ same. j.1 (same ∙ was.1));
     others = λ g n other. removed_stays x g w.room.flights n (λ same. other (same ∙ sym was.1));
   }
 
