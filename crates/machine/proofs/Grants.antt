@@ -1,6 +1,7 @@
 -- What check and confirm keep, and what a grant says.
 use Rattle.std.proofs.Common.{◌≡◌, ℕ, ◌+◌, ◌<◌, ◌≤◌, false, eqb, leb, List, [], ◌∷◌, length, set, pos, ◌+ℤ◌, Some, None, Ok, Err, Option, refl, ap, ◌∙◌, subst, arith}
 use lib.Signed.{lt_z, le_z}
+use Rattle.std.proofs.lemmas.Int.{ints}
 use Rattle.std.proofs.lemmas.Bool.{cond_both, cond-true, eq-eqb, and_from, both_ways}
 use Rattle.format.specs.declared.lease.Kind.TheVariants.{Owned}
 use Rattle.format.specs.declared.lease.Kind.{Kind}
@@ -27,7 +28,7 @@ use Rattle.machine.proofs.Core.{landed}
 use Rattle.machine.proofs.CoreFacts.{hold_claim}
 use Rattle.machine.proofs.Tests.{unless_elim, by_option}
 use Rattle.machine.proofs.Same.{record_same, mark_same}
-use Rattle.machine.proofs.Times.{Ticks, log_ticked, later_ticked, later_ticks, not_early, not_late, before_until}
+use Rattle.machine.proofs.Times.{Ticks, log_ticked}
 use Rattle.machine.proofs.Shape.{WholePending, Inv, Kept, Stand, stands}
 use Rattle.machine.proofs.Kept.{kept_same, kept_from, logged_of, read_view, read_kept, reading_elim}
 use Rattle.machine.proofs.Seats.{claim_is, hold_is, turned, seat_turn, logged_turn}
@@ -80,8 +81,8 @@ checked_answers w h r x y i t c room early soon b =
     let n = ticked o x.issued in
     let p = claim_is o (seat_at m h r) x c (i.shape.seated.whole h r) in
     let e : LogEntry = lease_entry m events.Granted h r x.term (x.issued +ℤ pos L) in
-    let until = later_ticked o x.issued L p.1 in
-    let told = log_ticked o (x.issued +ℤ pos L) (later_ticks o x.issued L p.1) ∙ until in
+    let until : ticked o (x.issued +ℤ pos L) ≡ n + L = omega (arith, ints) in
+    let told = log_ticked o (x.issued +ℤ pos L) (omega (arith, ints)) ∙ until in
     let x' = seats.Held x.term (record { 0 = x.issued +ℤ pos L }) None in
     let v : World = turned w h r x' m.hosts m.flights (m.logged + 1) (set w.log m.logged e) in
     cond_both (same_record y (claim_record r x.mark x.term)) _ (record { answer = Ok checks.Stolen; world = stolen w h r }) (Answers (Granting r) w)
@@ -93,12 +94,12 @@ checked_answers w h r x y i t c room early soon b =
       noted = omega (arith, (logged_of w v e room refl).tops r, cond-true (eqb r r) x.term 0 (eq-eqb r r refl));
     } in
     answered (Granting r) w v _
-    (logged_turn w h r x' i t (later_ticks o x.issued L p.1, p.2, p.3, tt) (ap (λ (z : ℕ). held x.term z None) until) e room
+    (logged_turn w h r x' i t (omega (arith, ints), p.2, p.3, tt) (ap (λ (z : ℕ). held x.term z None) until) e room
     (λ turn l u. Move.grants h r x.mark x.term n turn (subst (Logged (view w) (view v)) (ap (note m.tick events.Granted h r x.term) told) l) u p.0 stands_there
-    (not_early o x.issued m.tick (check_wait m) p.1 early) (not_late o x.issued m.tick L p.1 soon)))
+    (omega (arith, ints)) (omega (arith, ints))))
     grant)
     (λ _. answered (Granting r) w (stolen w h r) checks.Stolen
-    (seat_turn w h r seats.Idle i t tt refl (λ turn l u. Move.leaves h r x.mark x.term n turn l u p.0 (not_early o x.issued m.tick (check_wait m) p.1 early)))
+    (seat_turn w h r seats.Idle i t tt refl (λ turn l u. Move.leaves h r x.mark x.term n turn l u p.0 (omega (arith, ints))))
     tt)
 
 -- check keeps a room, and grants only what is vacant, under a term above all others
@@ -131,15 +132,15 @@ confirmed_answers w h r x a y i t c pending room soon b =
     let whole : Ticks o a.issued.0 = subst (WholePending o) pending p.4 in
     let was : (view w).seat h r ≡ held x.term (ticked o x.until) (Some (record { mark = a.mark; at = n })) = p.0 ∙ ap (λ (z : Option Pending). held x.term (ticked o x.until) (asked o z)) pending in
     let e : LogEntry = lease_entry m events.Renewed h r x.term (a.issued.0 +ℤ pos L) in
-    let until = later_ticked o a.issued.0 L whole in
-    let told = log_ticked o (a.issued.0 +ℤ pos L) (later_ticks o a.issued.0 L whole) ∙ until in
+    let until : ticked o (a.issued.0 +ℤ pos L) ≡ n + L = omega (arith, ints) in
+    let told = log_ticked o (a.issued.0 +ℤ pos L) (omega (arith, ints)) ∙ until in
     let x' = seats.Held x.term (record { 0 = a.issued.0 +ℤ pos L }) None in
     let v : World = turned w h r x' m.hosts m.flights (m.logged + 1) (set w.log m.logged e) in
-    let late = before_until o x.until m.tick p.1 soon in
+    let late : m.tick < ticked o x.until = omega (arith, ints) in
     let ours = i.core.hold_ours was late (landed b) in
     cond_both (same_mark y.mark a.mark) _ _ (Answers Unstolen w)
     (λ same. answered Unstolen w v confirms.Renewed
-    (logged_turn w h r x' i t (later_ticks o a.issued.0 L whole, p.2, p.3, tt) (ap (λ (z : ℕ). held x.term z None) until) e room
+    (logged_turn w h r x' i t (omega (arith, ints), p.2, p.3, tt) (ap (λ (z : ℕ). held x.term z None) until) e room
     (λ turn l u. Move.confirms h r x.term (ticked o x.until) (record { mark = a.mark; at = n }) y turn (subst (Logged (view w) (view v)) (ap (note m.tick events.Renewed h r x.term) told) l) u
     was late b (mark_same y.mark a.mark same)))
     tt)

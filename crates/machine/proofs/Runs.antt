@@ -1,6 +1,7 @@
 -- Every run of a room stays sound.
 use Rattle.std.proofs.Common.{◌≡◌, ℕ, ◌<◌, true, List, [], ◌∷◌, ◌++◌, length, get_or, replicate, pos, sym, refl, ap, ◌∙◌, subst, inl, inr, arith}
 use Rattle.std.proofs.lemmas.List.{length-replicate, get_or-replicate, get_or_past}
+use Rattle.std.proofs.lemmas.Int.{ints}
 use Rattle.std.proofs.lemmas.Bool.{cases_Bool, cases_lt}
 use Rattle.machine.specs.declared.types.Host.{Host}
 use Rattle.machine.specs.declared.types.Seat.{Seat}
@@ -17,7 +18,7 @@ use Rattle.machine.specs.Soundness.{SignsExactly, NeverStolen, fresh_world, Hold
 use Rattle.machine.specs.View.{held, placed, asked, ticked, view}
 use Rattle.machine.specs.Moves.{EveryCallMoves}
 use Rattle.machine.proofs.Core.{HeldUntil}
-use Rattle.machine.proofs.Times.{until_tick, tick_until, not_over}
+use Rattle.machine.proofs.Times.{not_over}
 use Rattle.machine.proofs.Shape.{Whole, Closed, Inv, Kept, Ran, Stand, stood}
 use Rattle.machine.proofs.Signs.{sign_answers, sign_holds}
 use Rattle.machine.proofs.Seats.{hold_is}
@@ -103,7 +104,7 @@ module _ (w : World) (i : Inv w) where
   holds_held h r (x, e, soon) =
       let o = (host_at w.room h).offset in
       let p = hold_is o (seat_at w.room h r) x e (i.shape.seated.whole h r) in
-      (ticked o x.until, (x.term, asked o x.pending, p.0), until_tick o x.until w.room.tick p.1 soon)
+      (ticked o x.until, (x.term, asked o x.pending, p.0), omega (arith, ints))
 
   -- and the other way round
   held_holds : (h r u : ℕ) → HeldUntil (view w) h r u → (view w).tick < u → Holds w.room h r
@@ -116,7 +117,7 @@ module _ (w : World) (i : Inv w) where
       go (seats.Claimed a b c) n is e = cc
       go (seats.Held term until pending) n is e =
           let q : ticked (host_at w.room h).offset until.0 ≡ u = cc in
-          (record { term = term; until = until.0; pending = pending }, ap hold is, tick_until (host_at w.room h).offset until.0 w.room.tick n.0 (omega arith))
+          (record { term = term; until = until.0; pending = pending }, ap hold is, omega (arith, ints))
 
   -- no two hosts hold one resource
   exclusive : Exclusive w.room

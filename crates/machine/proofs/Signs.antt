@@ -1,5 +1,5 @@
 -- What sign answers.
-use Rattle.std.proofs.Common.{◌≡◌, ℕ, false, [], ◌∷◌, Some, None, Ok, Err, Option, Result, refl, ap, ◌∙◌}
+use Rattle.std.proofs.Common.{arith, ◌≡◌, ℕ, false, [], ◌∷◌, Some, None, Ok, Err, Option, Result, refl, ap, ◌∙◌}
 use lib.Signed.{le_z}
 use Rattle.disk.specs.declared.fault.Fault.{Fault}
 use Rattle.disk.specs.declared.fault.Refusal.TheVariants.{WrongSeat}
@@ -8,7 +8,7 @@ use Rattle.machine.specs.Outcomes.{gate, room_fault, standing}
 use Rattle.machine.specs.Seats.{Hold, hold}
 use Rattle.machine.specs.Holding.{late, signs, sign_by, sign_call}
 use Rattle.machine.specs.Soundness.{Holds}
-use Rattle.machine.proofs.Times.{below_until}
+use Rattle.std.proofs.lemmas.Int.{ints}
 use Rattle.machine.proofs.Tests.{AllFalse, gate_passes, gate_elim}
 
 -- what sign answers of a seat, once the host may call
@@ -26,4 +26,4 @@ sign_holds m h r k = gate_elim m (λ a. sign_by m h r a ≡ Ok k → Holds m h r
   where
     seat : (y : Option Hold) → hold (seat_at m h r) ≡ y → seat_sign m h y ≡ Ok k → Holds m h r
     seat None is = λ e. cc
-    seat (Some x) is = gate_elim m (λ a. signs m h x a ≡ Ok k → Holds m h r) (late m h x ∷ []) (λ _ e. cc) (λ n _. (x, is, below_until x.until (reading m h) n.0))
+    seat (Some x) is = gate_elim m (λ a. signs m h x a ≡ Ok k → Holds m h r) (late m h x ∷ []) (λ _ e. cc) (λ n _. (x, is, let soon = n.0 in omega (arith, ints)))
