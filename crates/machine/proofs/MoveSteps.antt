@@ -1,44 +1,21 @@
 -- Each move of a room is a step, so it keeps the core, and forgets no grant.
 use Rattle.std.proofs.Common.{◌≡◌, ℕ, ◌+◌, ◌*◌, ◌<◌, ◌≤◌, max, true, false, eqb, ◌⊎◌, Some, None, Option, sym, refl, ap, ◌∙◌, subst, inl, inr, arith}
 use Rattle.std.proofs.lemmas.Bool.{cases_eq, eq-eqb, ne_eqb, cond-true, cond-false}
-use Rattle.format.specs.declared.lease.Kind.TheVariants.{Free}
 use Rattle.format.specs.declared.lease.Mark.{Mark}
 use Rattle.format.specs.declared.lease.LeaseRecord.{LeaseRecord}
 use Rattle.machine.specs.declared.types.Flight.{Flight}
 use Rattle.machine.specs.declared.settings.Settings.{Settings}
 use Rattle.format.specs.declared.events.Event.TheVariants as events
-use Rattle.machine.specs.View.{watching, Asked, idle, claimed, held, View, In, claim_record}
-use Rattle.machine.specs.Moves.{vacant, Turn, Unlogged, Logged, note, Unsent, Sent, Open, Still, Gone, Unwritten, Written, Changed, Move}
-use Rattle.machine.proofs.Core.{landed, Known, New, Core}
-use Rattle.machine.proofs.Step.{Landed, Claims, kept, renewing, renewed, granted, Granting, Step}
+use Rattle.machine.specs.View.{Asked, Place, idle, claimed, held, View, In, claim_record}
+use Rattle.machine.specs.Moves.{vacant, Turn, Unlogged, Logged, note, Unsent, Sent, Open, Still, Unwritten, Move}
+use Rattle.machine.proofs.Core.{landed, Ours, Known, New, Core}
+use Rattle.machine.proofs.Step.{Issued, Landed, Claims, kept, renewing, renewed, granted, Granting, Step}
 use Rattle.machine.proofs.StepKeeps.{step_keeps}
 use Rattle.machine.proofs.Quiet.{quiet_core}
 use Rattle.machine.proofs.CoreFacts.{sole, hold_claim, open_vacant, open_unclaimed, only_claim}
 use Rattle.machine.proofs.TurnEffects.{is_held, vacant_held, back, calm_course, turn_course, turn_watches, turn_claims, turn_holds, turn_names, unsent, sent, sent_new, sent_used, over_step, over_seats, begun_step}
 
 module _ {s : Settings} {V W : View} (c : Core s V) where
-  -- a host notes the record that it read
-  notes_step : {h r : ℕ} {x : LeaseRecord} → Turn V W h r (watching x V.tick) → Unlogged V W → Unsent V W → vacant (V.seat h r) ≡ true → V.block r ≡ Some x → Step s V W
-  notes_step t l u v b = record {
-    course = turn_course t c (unsent u);
-    watches = λ e. elim (back t e) [ inl n ↦ inr (cc, cc) | inr n ↦ inl n.1 ];
-    claims = turn_claims t refl;
-    holds = turn_holds t refl l;
-    tops = λ q. inl (l.tops q);
-    names = turn_names t (vacant_held _ v) l;
-  }
-
-  -- a claim is given up
-  leaves_step : {h r k i : ℕ} {m : Mark} → Turn V W h r idle → Unlogged V W → Unsent V W → V.seat h r ≡ claimed m k i → Step s V W
-  leaves_step t l u v = record {
-    course = turn_course t c (unsent u);
-    watches = turn_watches t refl;
-    claims = turn_claims t refl;
-    holds = turn_holds t refl l;
-    tops = λ q. inl (l.tops q);
-    names = turn_names t (ap is_held v) l;
-  }
-
   -- a host claims over an open record
   claims_step : {h r : ℕ} {m : Mark} {x : LeaseRecord} → Turn V W h r (claimed m (x.term + 1) V.tick) → Unlogged V W → Sent V W h r (claim_record r m (x.term + 1))
       → vacant (V.seat h r) ≡ true → V.block r ≡ Some x → Open s V h r x → Step s V W
@@ -71,20 +48,26 @@ module _ {s : Settings} {V W : View} (c : Core s V) where
             above = rw eq (omega (arith, c.terms (landed b), l.tops r));
           }
 
-  -- a holder asks for a renewal: no claim stands, and its term is the highest
+  -- what a holder issues: no claim stands, and nobody else holds
+  holder_issues : {h r k u : ℕ} {x : Place} {b : LeaseRecord} {p : Option Asked} → Turn V W h r x → Sent V W h r b → V.seat h r ≡ held k u p → V.tick < u → W.top b.resource ≤ b.term
+      → ((g k' u' : ℕ) (p' : Option Asked) → g ≡ h → x ≡ held k' u' p' → Ours W g k' b) → Issued s V W b
+  holder_issues {h} {r} t n v soon term own = record {
+    new = sent_new n;
+    used = sent_used n t.gens;
+    ours = λ {g = g} {r = q} {k = k'} {u = u'} {p = p'} i e late. let to : q ≡ r = sym i ∙ n.there in elim (back t e) [
+      | inl j ↦ own g k' u' p' j.0 j.2
+      | inr j ↦ absurd (j.0 (sole c (rw to at j.1) (omega (arith, t.tick)) v soon) to)
+    ];
+    alone = λ {r = q} i e late b'. let to : q ≡ r = sym i ∙ n.there in hold_claim c v soon (rw to at e) (landed (rw to at b'));
+    term = term;
+  }
+
+  -- a holder asks for a renewal
   renews_step : {h r k u : ℕ} {m : Mark} {p : Option Asked} → Turn V W h r (held k u (Some (record { mark = m; at = V.tick }))) → Unlogged V W → Sent V W h r (claim_record r m k)
       → V.seat h r ≡ held k u p → V.tick < u → Step s V W
   renews_step {h} {r} {k} {u} {m} {p} t l n v soon = record {
-    course = turn_course t c (sent n (record {
-      new = sent_new n;
-      used = sent_used n t.gens;
-      ours = λ {g = g} {r = q} {k = k'} i e late. elim (back t e) [
-        | inl j ↦ record { kind = refl; owner = n.owner ∙ sym j.0; generation = n.generation ∙ sym (t.gens h) ∙ ap W.gen (sym j.0); term = let d = j.2 in cc }
-        | inr j ↦ let same : g ≡ h = sole c (rw (← i) at j.1) (omega (arith, t.tick)) v soon in absurd (j.0 same (sym i))
-      ];
-      alone = λ i e late b. hold_claim c v soon (rw (← i) at e) (landed (rw (← i) at b));
-      term = omega (arith, c.hold_top v soon, l.tops r);
-    }));
+    course = turn_course t c (sent n (holder_issues t n v soon (omega (arith, c.hold_top v soon, l.tops r))
+        (λ g k' u' p' e d. record { kind = refl; owner = n.owner ∙ sym e; generation = n.generation ∙ sym (t.gens h) ∙ ap W.gen (sym e); term = cc })));
     watches = turn_watches t refl;
     claims = turn_claims t refl;
     holds = λ {r = q} e. elim (back t e) [
@@ -100,29 +83,6 @@ module _ {s : Settings} {V W : View} (c : Core s V) where
       ],
     );
   }
-
-  -- a holder releases
-  releases_step : {h r k u : ℕ} {m : Mark} {p : Option Asked} → Turn V W h r idle → Logged V W (note V.tick events.Released h r k 0) → Sent V W h r (record { kind = Free; resource = r; mark = m; term = k })
-      → V.seat h r ≡ held k u p → V.tick < u → Step s V W
-  releases_step {h} {r} t l n v soon =
-      over_step l (turn_course t c (sent n (record {
-        new = sent_new n;
-        used = sent_used n t.gens;
-        ours = λ {g = g} {r = q} {k = k'} i e late. elim (back t e) [
-          | inl j ↦ let d = j.2 in cc
-          | inr j ↦ let same : g ≡ h = sole c (rw (← i) at j.1) (omega (arith, t.tick)) v soon in absurd (j.0 same (sym i))
-        ];
-        alone = λ i e late b. hold_claim c v soon (rw (← i) at e) (landed (rw (← i) at b));
-        term = omega (arith, c.hold_top v soon, l.tops r);
-      }))) (λ q. refl) (λ q. refl) (over_seats t)
-
-  -- a renewal is confirmed
-  confirms_step : {h r k u : ℕ} {a : Asked} {x : LeaseRecord} → Turn V W h r (held k (a.at + s.lease) None) → Logged V W (note V.tick events.Renewed h r k (a.at + s.lease)) → Unsent V W
-      → V.seat h r ≡ held k u (Some a) → V.tick < u → V.block r ≡ Some x → x.mark ≡ a.mark → Step s V W
-  confirms_step {h} {r} {k} {u} {a} {x} t l n v soon b m =
-      begun_step l c t n (λ q. refl) (λ g q. refl) (λ g k' u' p e late. sole c e late v soon)
-      (λ here g q k' u' p d f y. renewed a u x (cc) (cc) soon (cc) (cc) m (cc))
-      (λ q. inl (omega (arith, l.tops q)))
 
   -- a claim is granted
   grants_step : {h r k i : ℕ} {m : Mark} → Turn V W h r (held k (i + s.lease) None) → Logged V W (note V.tick events.Granted h r k (i + s.lease)) → Unsent V W
@@ -151,15 +111,6 @@ module _ {s : Settings} {V W : View} (c : Core s V) where
         ];
         terms = λ a. omega (arith, top, ap (λ (z : LeaseRecord). z.term) (only_claim c v b early soon a));
       }
-
-  -- a host goes down
-  crashes_step : {h : ℕ} → W.tick ≡ V.tick → ((g : ℕ) → W.gen g ≡ V.gen g)
-      → ((g q : ℕ) → ((g ≡ h) × (W.seat g q ≡ idle)) ⊎ ((g ≡ h → ⊥) × (W.seat g q ≡ V.seat g q) × (W.up g ≡ V.up g)))
-      → Unwritten V W → Logged V W (note V.tick events.Crashed h 0 0 0) → Unsent V W → Step s V W
-  crashes_step {h} now gens seats blocks l n =
-      over_step l (calm_course c (unsent n) now gens blocks (λ g q e. elim (seats g q) [ inl d ↦ d.1 | inr d ↦ d.1 ∙ c.down_idle (sym d.2 ∙ e) ]))
-      (λ q. refl) (λ q. refl)
-      (λ g q. elim (seats g q) [ inl d ↦ inl (d.1, eq-eqb h g (sym d.0)) | inr d ↦ inr (d.1, ne_eqb h g (λ y. d.0 (sym y))) ])
 
   -- nobody takes a turn: time passes, a write lands or is lost, a block is spoiled, a host comes back
   fades_step : V.tick ≤ W.tick
@@ -195,25 +146,6 @@ module _ {s : Settings} {V W : View} (c : Core s V) where
   as_before : Unwritten V W → (r : ℕ) (y : LeaseRecord) → W.block r ≡ Some y → (V.block r ≡ Some y) ⊎ Landed V W r y
   as_before blocks r y e = inl (sym (blocks r) ∙ e)
 
-  -- a write lands
-  lands_step : {f : Flight} → Still V W → Gone V W f → Written V W f.body.resource (Some f.body) → Step s V W
-  lands_step {f} t g blocks = still_step t (λ e i. (g.flights e i).0) (λ q y e. elim (blocks q) [
-    | inr d ↦ inl (sym d ∙ e)
-    | inl d ↦ let is : f.body ≡ y = cc in
-        inr (record { flight = f; was = g.was; is = is; there = ap (λ (z : LeaseRecord). z.resource) (sym is) ∙ sym d.0; gone = λ {f = e'} i m. (g.flights e' i).1 (m ∙ ap (λ (z : LeaseRecord). z.mark) (sym is)) })
-  ])
-
-  -- a host that was down comes back
-  returns_step : {h : ℕ} → V.up h ≡ false → W.up h ≡ true → W.gen h ≡ V.gen h + 1 → Changed V W h → W.tick ≡ V.tick
-      → ((g q : ℕ) → W.seat g q ≡ V.seat g q) → Unwritten V W → Unlogged V W → W.flights ≡ V.flights → Step s V W
-  returns_step {h} down up next others now seats blocks l n =
-      fades_step (omega arith) (λ f i. let j = subst (In f) n i in (j, omega (arith, (c.flight_time j).1))) seats (as_before blocks)
-      (λ g e. elim (cases_eq g h) [ inl d ↦ cc | inr d ↦ sym (others.ups g d) ∙ e ])
-      (λ g. elim (cases_eq g h) [
-        | inl d ↦ inr (omega (arith, ap V.gen d, ap W.gen d), λ q. seats g q ∙ c.down_idle (ap V.up d ∙ down))
-        | inr d ↦ inl (others.gens g d, omega (arith, others.stamps g d))
-      ]) l
-
 -- the core is kept, and no grant is forgotten
 abbrev Keeps : Settings → View → View → Type 0
 Keeps s V W = Core s W × ((q : ℕ) → V.top q ≤ W.top q)
@@ -240,15 +172,48 @@ move_keeps s V W c (Move.opens a t n known old) = (
 move_keeps s V W c (Move.passes now ups gens stamps seats l blocks flights others) =
     stepped c (fades_step c (omega arith) flights seats (as_before c blocks) (λ h e. sym (ups h) ∙ e) (λ h. inl (gens h, omega (arith, stamps h))) l)
 move_keeps s V W c (Move.loses f t g blocks) = stepped c (still_step c t (λ e i. (g.flights e i).0) (as_before c blocks))
-move_keeps s V W c (Move.lands f t g blocks) = stepped c (lands_step c t g blocks)
+move_keeps s V W c (Move.lands f t g blocks) = stepped c (still_step c t (λ e i. (g.flights e i).0) (λ q y e. elim (blocks q) [
+  | inr d ↦ inl (sym d ∙ e)
+  | inl d ↦ let is : f.body ≡ y = cc in
+      inr (record { flight = f; was = g.was; is = is; there = ap (λ (z : LeaseRecord). z.resource) (sym is) ∙ sym d.0; gone = λ {f = e'} i m. (g.flights e' i).1 (m ∙ ap (λ (z : LeaseRecord). z.mark) (sym is)) })
+]))
 move_keeps s V W c (Move.spoils r t n blocks) = stepped c (still_step c t (λ f i. subst (In f) n i) (λ q y e. elim (blocks q) [ inl d ↦ cc | inr d ↦ inl (sym d ∙ e) ]))
-move_keeps s V W c (Move.notes h r x t l n v b) = stepped c (notes_step c t l n v b)
+move_keeps s V W c (Move.notes h r x t l n v b) = stepped c (record {
+  course = turn_course t c (unsent n);
+  watches = λ e. elim (back t e) [ inl j ↦ inr (cc, cc) | inr j ↦ inl j.1 ];
+  claims = turn_claims t refl;
+  holds = turn_holds t refl l;
+  tops = λ q. inl (l.tops q);
+  names = turn_names t (vacant_held (V.seat h r) v) l;
+})
 move_keeps s V W c (Move.claims h r m x t l n v b o) = stepped c (claims_step c t l n v b o)
 move_keeps s V W c (Move.grants h r m k i t l n v b early soon) = stepped c (grants_step c t l n v b early soon)
 move_keeps s V W c (Move.renews h r m k u p t l n v soon) = stepped c (renews_step c t l n v soon)
-move_keeps s V W c (Move.confirms h r k u a x t l n v soon b m) = stepped c (confirms_step c t l n v soon b m)
-move_keeps s V W c (Move.releases h r m k u p t l n v soon) = stepped c (releases_step c t l n v soon)
-move_keeps s V W c (Move.leaves h r m k i t l n v early) = stepped c (leaves_step c t l n v)
+move_keeps s V W c (Move.confirms h r k u a x t l n v soon b m) =
+    stepped c (begun_step l c t n (λ q. refl) (λ g q. refl) (λ g k' u' p e late. sole c e late v soon)
+    (λ here g q k' u' p d f y. renewed a u x (cc) (cc) soon (cc) (cc) m (cc))
+    (λ q. inl (omega (arith, l.tops q))))
+move_keeps s V W c (Move.releases h r m k u p t l n v soon) =
+    stepped c (over_step l (turn_course t c (sent n (holder_issues c t n v soon (omega (arith, c.hold_top v soon, l.tops r)) (λ g k' u' p' e d. cc))))
+    (λ q. refl) (λ q. refl) (over_seats t))
+move_keeps s V W c (Move.leaves h r m k i t l n v early) = stepped c (record {
+  course = turn_course t c (unsent n);
+  watches = turn_watches t refl;
+  claims = turn_claims t refl;
+  holds = turn_holds t refl l;
+  tops = λ q. inl (l.tops q);
+  names = turn_names t (ap is_held v) l;
+})
 move_keeps s V W c (Move.expires h r k u p t l n v over) = stepped c (over_step l (turn_course t c (unsent n)) (λ q. refl) (λ q. refl) (over_seats t))
-move_keeps s V W c (Move.crashes h up down now gens seats blocks l n) = stepped c (crashes_step c now gens seats blocks l n)
-move_keeps s V W c (Move.returns h down up next used others now seats blocks l n) = stepped c (returns_step c down up next others now seats blocks l n)
+move_keeps s V W c (Move.crashes h up down now gens seats blocks l n) =
+    stepped c (over_step l
+    (calm_course c (unsent n) now gens blocks (λ g q e. elim (seats g q) [ inl d ↦ d.1 | inr d ↦ d.1 ∙ c.down_idle (sym d.2 ∙ e) ]))
+    (λ q. refl) (λ q. refl)
+    (λ g q. elim (seats g q) [ inl d ↦ inl (d.1, eq-eqb h g (sym d.0)) | inr d ↦ inr (d.1, ne_eqb h g (λ y. d.0 (sym y))) ]))
+move_keeps s V W c (Move.returns h down up next used others now seats blocks l n) =
+    stepped c (fades_step c (omega arith) (λ f i. let j = subst (In f) n i in (j, omega (arith, (c.flight_time j).1))) seats (as_before c blocks)
+    (λ g e. elim (cases_eq g h) [ inl d ↦ cc | inr d ↦ sym (others.ups g d) ∙ e ])
+    (λ g. elim (cases_eq g h) [
+      | inl d ↦ inr (omega (arith, ap V.gen d, ap W.gen d), λ q. seats g q ∙ c.down_idle (ap V.up d ∙ down))
+      | inr d ↦ inl (others.gens g d, omega (arith, others.stamps g d))
+    ]) l)
