@@ -23,7 +23,7 @@ module _ {s : Settings} {V W : View} (c : Core s V) where
     course = turn_course t c (sent n (record {
       new = sent_new n;
       used = sent_used n t.gens;
-      ours = λ i e late. absurd (elim (back t e) [ inl j ↦ let k = j.2 in cc | inr j ↦ open_vacant c (sym (ap V.block i) ∙ b) (rw i at o) j.1 (omega (arith, t.tick)) ]);
+      ours = λ i e late. absurd (elim (back t e) [ inl j ↦ cc | inr j ↦ open_vacant c (sym (ap V.block i) ∙ b) (rw i at o) j.1 (omega (arith, t.tick)) ]);
       alone = λ i e late b'. open_unclaimed c (sym (ap V.block i) ∙ b) (rw i at o) e late b';
       term = omega (arith, c.terms (landed b), l.tops r);
     }));
@@ -78,7 +78,7 @@ module _ {s : Settings} {V W : View} (c : Core s V) where
     names = λ {r = q} {h = g} e. inl (
       sym (l.names q) ∙ e,
       λ o. elim (t.seats g q) [
-        | inl j ↦ (k, Some (record { mark = m; at = V.tick }), (let d = o.2 in let f = t.here in cc))
+        | inl j ↦ (k, Some (record { mark = m; at = V.tick }), (cc))
         | inr j ↦ (o.0, o.1, j.1 ∙ o.2)
       ],
     );
@@ -106,7 +106,7 @@ module _ {s : Settings} {V W : View} (c : Core s V) where
         above = omega (arith, top, above);
         vacant = λ e late. hold_claim c e late v (landed b);
         claims = λ {g = g} {m = m'} e a. elim (back t e) [
-          | inl j ↦ let d = j.2 in cc
+          | inl j ↦ cc
           | inr j ↦ j.0 (sym (c.claim_mark j.1).0 ∙ ap (λ (z : LeaseRecord). z.mark.owner) (only_claim c v b early soon a) ∙ (c.claim_mark v).0) refl
         ];
         terms = λ a. omega (arith, top, ap (λ (z : LeaseRecord). z.term) (only_claim c v b early soon a));

@@ -143,7 +143,7 @@ module _ (w : World) (i : Inv w) where
         opened = elim (cases_Bool w.room.opened) [ inl y ↦ y | inr y ↦ let z = (i.shape.closed y).seats h r in cc ];
         host = elim (i.shape.seated.spare h r) [ inl y ↦ cc | inr y ↦ y.0 ];
         resource = elim (i.shape.seated.spare h r) [ inl y ↦ cc | inr y ↦ y.1 ];
-        up = elim (cases_Bool (host_at w.room h).up) [ inl y ↦ y | inr y ↦ let z = i.core.down_idle {h = h} {r = r} y in let v = n.1.2 in cc ];
+        up = elim (cases_Bool (host_at w.room h).up) [ inl y ↦ y | inr y ↦ let z = i.core.down_idle {h = h} {r = r} y in cc ];
       }
 
   -- sign answers who holds, and nobody else

@@ -141,7 +141,7 @@ module _ (w : World) (h r : ℕ) (x : Seat) where
       };
       flying = flying;
       blocks = i.shape.blocks;
-      closed = λ e. let o = t.opened in cc;
+      closed = λ e. cc;
     }) refl (move (record {
       tick = refl;
       awake = t.up;

@@ -90,7 +90,7 @@ module _ {V W : View} {h r : ℕ} {x : Place} (t : Turn V W h r x) where
   -- a seat after a turn is the one that the turn left, or as it was
   pub back : {g q : ℕ} {z : Place} → W.seat g q ≡ z → ((g ≡ h) × (q ≡ r) × (x ≡ z)) ⊎ ((g ≡ h → q ≡ r → ⊥) × (V.seat g q ≡ z))
   back {g} {q} {z} e = elim (t.seats g q) [
-    | inl n ↦ inl (n.0, n.1, let k = t.here in cc)
+    | inl n ↦ inl (n.0, n.1, cc)
     | inr n ↦ inr (n.0, sym n.1 ∙ e)
   ]
 
@@ -103,21 +103,21 @@ module _ {V W : View} {h r : ℕ} {x : Place} (t : Turn V W h r x) where
 
   -- where the turn leaves no watch, none is new
   pub turn_watches : is_watching x ≡ false → {g q i : ℕ} {y : LeaseRecord} → W.seat g q ≡ watching y i → (V.seat g q ≡ watching y i) ⊎ ((V.block q ≡ Some y) × (i ≡ V.tick))
-  turn_watches k e = elim (back e) [ inl n ↦ let j = n.2 in cc | inr n ↦ inl n.1 ]
+  turn_watches k e = elim (back e) [ inl n ↦ cc | inr n ↦ inl n.1 ]
 
   -- where it leaves no claim, none is new
   pub turn_claims : is_claimed x ≡ false → {g q k i : ℕ} {m : Mark} → W.seat g q ≡ claimed m k i → (V.seat g q ≡ claimed m k i) ⊎ Claims V W g q m k i
-  turn_claims k e = elim (back e) [ inl n ↦ let j = n.2 in cc | inr n ↦ inl n.1 ]
+  turn_claims k e = elim (back e) [ inl n ↦ cc | inr n ↦ inl n.1 ]
 
   -- where it leaves no held seat, and logs nothing, none is new
   pub turn_holds : {s : Settings} → is_held x ≡ false → Unlogged V W → {g q k u : ℕ} {p : Option Asked} → W.seat g q ≡ held k u p → Holding s V W g q k u p
-  turn_holds i l {q = q} e = elim (back e) [ inl n ↦ let j = n.2 in cc | inr n ↦ kept n.1 (λ _ m. l.names q ∙ m) ]
+  turn_holds i l {q = q} e = elim (back e) [ inl n ↦ cc | inr n ↦ kept n.1 (λ _ m. l.names q ∙ m) ]
 
   -- where the seat was not held, and nothing is logged, whoever is named was so before
   pub turn_names : is_held (V.seat h r) ≡ false → Unlogged V W → {q g u : ℕ} → W.named q ≡ lasting g u → ((V.named q ≡ lasting g u) × (HeldUntil V g q u → HeldUntil W g q u)) ⊎ HeldUntil W g q u
   turn_names i l {q} {g} e = inl (
     sym (l.names q) ∙ e,
-    λ o. elim (t.seats g q) [ inl n ↦ let k = o.2 in cc | inr n ↦ (o.0, o.1, n.1 ∙ o.2) ],
+    λ o. elim (t.seats g q) [ inl n ↦ cc | inr n ↦ (o.0, o.1, n.1 ∙ o.2) ],
   )
 
 -- leases end: each seat is idle now and its lease ended by the entry, or it is as it was
@@ -129,13 +129,13 @@ over_step {V = V} {e = e} l course none ungranted seats = record {
   claims = λ {h = g} {r = q} y. elim (seats g q) [ inl d ↦ cc | inr d ↦ inl (sym d.0 ∙ y) ];
   holds = λ {h = g} {r = q} {u = u} y. elim (seats g q) [ inl d ↦ cc | inr d ↦ kept (sym d.0 ∙ y) (λ _ m. past l q (none q) ∙ ap (ended e q) m ∙ cond-false (ends e g q) nobody (lasting g u) d.1) ];
   tops = λ q. inl (omega (arith, l.tops q, ungranted q));
-  names = λ {r = q} {h = g} {u} y. let b = ended_back e q (V.named q) g u (sym (past l q (none q)) ∙ y) in inl (b.0, λ o. elim (seats g q) [ inl d ↦ let n = b.1 in cc | inr d ↦ (o.0, o.1, d.0 ∙ o.2) ]);
+  names = λ {r = q} {h = g} {u} y. let b = ended_back e q (V.named q) g u (sym (past l q (none q)) ∙ y) in inl (b.0, λ o. elim (seats g q) [ inl d ↦ cc | inr d ↦ (o.0, o.1, d.0 ∙ o.2) ]);
 }
 
 -- a turn that ends a lease
 pub over_seats : {V W : View} {h r : ℕ} → Turn V W h r idle → (g q : ℕ) → ((W.seat g q ≡ idle) × ((eqb h g && eqb r q) ≡ true)) ⊎ ((W.seat g q ≡ V.seat g q) × ((eqb h g && eqb r q) ≡ false))
 over_seats {h = h} {r = r} t g q = elim (t.seats g q) [
-  | inl n ↦ inl (let k = t.here in cc, both (n.0) (n.1))
+  | inl n ↦ inl (cc, both (n.0) (n.1))
   | inr n ↦ inr (n.1, other n.0)
 ]
   where
