@@ -101,7 +101,7 @@ module _ (w : World) (h : ℕ) (i : Inv w) (few : h < 16) where
             (λ g q. elim (seat_cases g q) [ inl d ↦ inl d.1 | inr d ↦ elim (s.spare g q) [ inl n ↦ inl (d.1 ∙ n) | inr n ↦ inr n ] ]);
         flying = i.shape.flying;
         blocks = i.shape.blocks;
-        closed = λ e. absurd (both_ways w.room.opened e o);
+        closed = λ e. cc;
       }) refl
       (Move.crashes h up (here w h downed i few (λ x. x.up)) refl (same w h downed i few (λ x. x.generation) refl)
       (λ g q. elim (seat_cases g q) [

@@ -86,7 +86,7 @@ module _ (w : World) (d : DiskModel) (t : ℕ) (fs : List Flight) where
 
   -- so an open room is kept if it is a move
   pub moved_kept : Inv w → w.room.opened ≡ true → length d.blocks ≡ length w.room.disk.blocks → Flying w.room.settings fs → Move w.room.settings (view w) (view moved_on) → Kept w moved_on
-  moved_kept i o long flying = kept_by w moved_on i (record { seated = i.shape.seated; flying = flying; blocks = λ _. omega (arith, long, i.shape.blocks o); closed = λ e. absurd (both_ways w.room.opened e o) }) refl
+  moved_kept i o long flying = kept_by w moved_on i (record { seated = i.shape.seated; flying = flying; blocks = λ _. omega (arith, long, i.shape.blocks o); closed = λ e. cc }) refl
 
 -- a block of the same bytes reads as before
 same_record : (m : Room) (d : DiskModel) (q : ℕ) → (block d q).bytes ≡ (block m.disk q).bytes → record_at (with_disk m d) q ≡ record_at m q

@@ -30,7 +30,7 @@ module _ (w : World) (d : DiskModel) (shut : w.room.opened ≡ false) where
   -- it stays closed
   shut_kept : Inv w → Kept w (at_room w (with_disk w.room d))
   shut_kept i = let s = i.shape in
-      kept_by w (at_room w (with_disk w.room d)) i (record { seated = s.seated; flying = s.flying; blocks = λ e. absurd (both_ways w.room.opened shut e); closed = s.closed }) refl (Move.rests shut_view)
+      kept_by w (at_room w (with_disk w.room d)) i (record { seated = s.seated; flying = s.flying; blocks = λ e. cc; closed = s.closed }) refl (Move.rests shut_view)
 
 -- the founding record is one that the room writes
 founding_valid : (r : ℕ) → r < 8 → Valid (founding r)
