@@ -1,7 +1,7 @@
 -- What crash, restart and set clock keep.
 use Rattle.std.proofs.Common.{◌≡◌, ℕ, ◌+◌, ◌<◌, ◌≤◌, true, false, not, ltb, leb, ◌⊎◌, List, [], length, get_or, replicate, set, ℤ, sym, refl, ap, ◌∙◌, subst, inl, inr, arith}
 use Rattle.std.proofs.lemmas.List.{length-set, length-replicate, get_or-replicate, get_or_past, get_or-set_same, get_or-set_other}
-use Rattle.std.proofs.lemmas.Bool.{not-false, ltb-true, leb-false, both_ways, cases_lt}
+use Rattle.std.proofs.lemmas.Bool.{not-false, ltb-true, leb-false, cases_lt}
 use Rattle.machine.specs.declared.types.Host.{Host}
 use Rattle.machine.specs.declared.types.Seat.{Seat}
 use Rattle.machine.specs.declared.types.Seat.TheVariants as seats
@@ -32,7 +32,7 @@ module _ (w : World) (h : ℕ) (x : Host) (i : Inv w) (few : h < 16) where
   hosted = set w.room.hosts h x
 
   there : h < length w.room.hosts
-  there = omega (arith, i.shape.seated.hosts_long)
+  there = omega arith
 
   -- a part of this host, of each other one, and one that stays as it was
   here : {A : Type 0} (f : Host → A) → f (get_or hosted h no_host) ≡ f x
@@ -78,7 +78,7 @@ module _ (w : World) (h : ℕ) (i : Inv w) (few : h < 16) where
   offset = same w h downed i few (λ x. x.offset) refl
 
   row_cases : (g : ℕ) → ((g ≡ h) × (get_or crashed.room.seats g [] ≡ replicate 8 seats.Idle)) ⊎ ((g ≡ h → ⊥) × (get_or crashed.room.seats g [] ≡ get_or w.room.seats g []))
-  row_cases = at_set w.room.seats h (replicate 8 seats.Idle) [] (omega (arith, i.shape.seated.rows_long))
+  row_cases = at_set w.room.seats h (replicate 8 seats.Idle) [] (omega arith)
 
   -- each seat is one of its own, which is idle, or as it was
   seat_cases : (g q : ℕ) → ((g ≡ h) × (seat_at crashed.room g q ≡ seats.Idle)) ⊎ ((g ≡ h → ⊥) × (seat_at crashed.room g q ≡ seat_at w.room g q))

@@ -2,7 +2,7 @@
 use Rattle.std.proofs.Common.{◌≡◌, ℕ, ◌+◌, ◌<◌, Bool, true, false, cond, ◌&&◌, ltb, leb, List, [], ◌∷◌, ◌++◌, length, take, set, Some, None, Ok, Err, Option, Result, sym, refl, ap, ◌∙◌, subst, inl, inr, arith}
 use mathlib.Core.Path.{fun_ext}
 use Rattle.std.proofs.lemmas.List.{take_more_set}
-use Rattle.std.proofs.lemmas.Bool.{leb-false, cond-true, and_from, lt-ltb, both_ways}
+use Rattle.std.proofs.lemmas.Bool.{leb-false, cond-true, and_from, lt-ltb}
 use Rattle.disk.specs.declared.fault.Fault.{Fault}
 use Rattle.disk.specs.Model.{DiskModel, access_answer, after_read, after_write, block}
 use Rattle.format.specs.declared.lease.LeaseRecord.{LeaseRecord}
@@ -39,7 +39,7 @@ pub kept_from : (w v x : World) → w.room.settings ≡ v.room.settings → view
 kept_from w v x s e n =
     record {
       inv = n.inv;
-      tops = λ r. let f = ap (λ (V : View). V.top r) e in omega (arith, n.tops r);
+      tops = λ r. let f = ap (λ (V : View). V.top r) e in omega arith;
       moved = subst (λ (z : Settings). Move z (view w) (view x)) (sym s) (subst (λ (V : View). Move v.room.settings V (view x)) e n.moved);
     }
 
@@ -86,7 +86,7 @@ module _ (w : World) (d : DiskModel) (t : ℕ) (fs : List Flight) where
 
   -- so an open room is kept if it is a move
   pub moved_kept : Inv w → w.room.opened ≡ true → length d.blocks ≡ length w.room.disk.blocks → Flying w.room.settings fs → Move w.room.settings (view w) (view moved_on) → Kept w moved_on
-  moved_kept i o long flying = kept_by w moved_on i (record { seated = i.shape.seated; flying = flying; blocks = λ _. omega (arith, long, i.shape.blocks o); closed = λ e. cc }) refl
+  moved_kept i o long flying = kept_by w moved_on i (record { seated = i.shape.seated; flying = flying; blocks = λ _. omega arith; closed = λ e. cc }) refl
 
 -- a block of the same bytes reads as before
 same_record : (m : Room) (d : DiskModel) (q : ℕ) → (block d q).bytes ≡ (block m.disk q).bytes → record_at (with_disk m d) q ≡ record_at m q
@@ -133,5 +133,5 @@ module _ (w : World) (r : ℕ) where
     unfolding view
     written_as x l well is q = let d = w.room.disk in elim ((touches d r (length bytes) bytes).bytes_there q) [
       | inl a ↦ inr (same_record w.room (after_write d r bytes) q a.0)
-      | inr a ↦ inl (a.0, record_here (written_at w r bytes).room q o (omega (arith, a.0)) ∙ ap record_of a.2 ∙ is)
+      | inr a ↦ inl (a.0, record_here (written_at w r bytes).room q o (omega arith) ∙ ap record_of a.2 ∙ is)
     ]

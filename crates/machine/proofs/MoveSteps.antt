@@ -23,7 +23,7 @@ module _ {s : Settings} {V W : View} (c : Core s V) where
     course = turn_course t c (sent n (record {
       new = sent_new n;
       used = sent_used n t.gens;
-      ours = λ i e late. absurd (elim (back t e) [ inl j ↦ cc | inr j ↦ open_vacant c (sym (ap V.block i) ∙ b) (rw i at o) j.1 (omega (arith, t.tick)) ]);
+      ours = λ i e late. absurd (elim (back t e) [ inl j ↦ cc | inr j ↦ open_vacant c (sym (ap V.block i) ∙ b) (rw i at o) j.1 (omega arith) ]);
       alone = λ i e late b'. open_unclaimed c (sym (ap V.block i) ∙ b) (rw i at o) e late b';
       term = omega (arith, c.terms (landed b), l.tops r);
     }));
@@ -56,7 +56,7 @@ module _ {s : Settings} {V W : View} (c : Core s V) where
     used = sent_used n t.gens;
     ours = λ {g = g} {r = q} {k = k'} {u = u'} {p = p'} i e late. let to : q ≡ r = sym i ∙ n.there in elim (back t e) [
       | inl j ↦ own g k' u' p' j.0 j.2
-      | inr j ↦ absurd (j.0 (sole c (rw to at j.1) (omega (arith, t.tick)) v soon) to)
+      | inr j ↦ absurd (j.0 (sole c (rw to at j.1) (omega arith) v soon) to)
     ];
     alone = λ {r = q} i e late b'. let to : q ≡ r = sym i ∙ n.there in hold_claim c v soon (rw to at e) (landed (rw to at b'));
     term = term;
@@ -103,7 +103,7 @@ module _ {s : Settings} {V W : View} (c : Core s V) where
 
       granting : Granting V W r
       granting = record {
-        above = omega (arith, top, above);
+        above = omega arith;
         vacant = λ e late. hold_claim c e late v (landed b);
         claims = λ {g = g} {m = m'} e a. elim (back t e) [
           | inl j ↦ cc
@@ -139,8 +139,8 @@ module _ {s : Settings} {V W : View} (c : Core s V) where
   still_step : Still V W → ((f : Flight) → In f W.flights → In f V.flights)
       → ((r : ℕ) (y : LeaseRecord) → W.block r ≡ Some y → (V.block r ≡ Some y) ⊎ Landed V W r y) → Step s V W
   still_step t sub blocks =
-      fades_step (omega (arith, t.tick)) (λ f i. (sub f i, omega (arith, t.tick, (c.flight_time (sub f i)).1))) t.seats blocks
-      (λ h e. sym (t.ups h) ∙ e) (λ h. inl (t.gens h, omega (arith, t.stamps h))) t.unlogged
+      fades_step (omega arith) (λ f i. (sub f i, omega (arith, t.tick, (c.flight_time (sub f i)).1))) t.seats blocks
+      (λ h e. sym (t.ups h) ∙ e) (λ h. inl (t.gens h, omega arith)) t.unlogged
 
   -- where every block reads as before
   as_before : Unwritten V W → (r : ℕ) (y : LeaseRecord) → W.block r ≡ Some y → (V.block r ≡ Some y) ⊎ Landed V W r y
@@ -166,11 +166,11 @@ move_keeps s V W c (Move.opens a t n known old) = (
         tops = λ r. t.unlogged.tops r ∙ a.tops r;
         names = λ r. t.unlogged.names r ∙ a.names r;
       })
-      (λ r y e. subst (λ (z : LeaseRecord). Known W z.mark) (sym (known r y e)) (inl (omega (arith, t.gens 0)))),
-  λ q. omega (arith, t.unlogged.tops q),
+      (λ r y e. subst (λ (z : LeaseRecord). Known W z.mark) (sym (known r y e)) (inl (omega arith))),
+  λ q. omega arith,
 )
 move_keeps s V W c (Move.passes now ups gens stamps seats l blocks flights others) =
-    stepped c (fades_step c (omega arith) flights seats (as_before c blocks) (λ h e. sym (ups h) ∙ e) (λ h. inl (gens h, omega (arith, stamps h))) l)
+    stepped c (fades_step c (omega arith) flights seats (as_before c blocks) (λ h e. sym (ups h) ∙ e) (λ h. inl (gens h, omega arith)) l)
 move_keeps s V W c (Move.loses f t g blocks) = stepped c (still_step c t (λ e i. (g.flights e i).0) (as_before c blocks))
 move_keeps s V W c (Move.lands f t g blocks) = stepped c (still_step c t (λ e i. (g.flights e i).0) (λ q y e. elim (blocks q) [
   | inr d ↦ inl (sym d ∙ e)
@@ -192,7 +192,7 @@ move_keeps s V W c (Move.renews h r m k u p t l n v soon) = stepped c (renews_st
 move_keeps s V W c (Move.confirms h r k u a x t l n v soon b m) =
     stepped c (begun_step l c t n (λ q. refl) (λ g q. refl) (λ g k' u' p e late. sole c e late v soon)
     (λ here g q k' u' p d f y. renewed a u x (cc) (cc) soon (cc) (cc) m (cc))
-    (λ q. inl (omega (arith, l.tops q))))
+    (λ q. inl (omega arith)))
 move_keeps s V W c (Move.releases h r m k u p t l n v soon) =
     stepped c (over_step l (turn_course t c (sent n (holder_issues c t n v soon (omega (arith, c.hold_top v soon, l.tops r)) (λ g k' u' p' e d. cc))))
     (λ q. refl) (λ q. refl) (over_seats t))
@@ -211,9 +211,9 @@ move_keeps s V W c (Move.crashes h up down now gens seats blocks l n) =
     (λ q. refl) (λ q. refl)
     (λ g q. elim (seats g q) [ inl d ↦ inl (d.1, eq-eqb h g (sym d.0)) | inr d ↦ inr (d.1, ne_eqb h g (λ y. d.0 (sym y))) ]))
 move_keeps s V W c (Move.returns h down up next used others now seats blocks l n) =
-    stepped c (fades_step c (omega arith) (λ f i. let j = subst (In f) n i in (j, omega (arith, (c.flight_time j).1))) seats (as_before c blocks)
+    stepped c (fades_step c (omega arith) (λ f i. let j = subst (In f) n i in (j, omega arith)) seats (as_before c blocks)
     (λ g e. elim (cases_eq g h) [ inl d ↦ cc | inr d ↦ sym (others.ups g d) ∙ e ])
     (λ g. elim (cases_eq g h) [
       | inl d ↦ inr (omega (arith, ap V.gen d, ap W.gen d), λ q. seats g q ∙ c.down_idle (ap V.up d ∙ down))
-      | inr d ↦ inl (others.gens g d, omega (arith, others.stamps g d))
+      | inr d ↦ inl (others.gens g d, omega arith)
     ]) l)

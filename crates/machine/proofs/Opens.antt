@@ -1,6 +1,6 @@
 -- Opening a room where nothing has happened yet.
 use Rattle.std.proofs.Common.{◌≡◌, ℕ, ◌+◌, ◌<◌, ◌≤◌, true, false, ◌&&◌, ltb, [], ◌∷◌, List, length, Some, None, sym, refl, ap, ◌∙◌, inl, inr, arith}
-use Rattle.std.proofs.lemmas.Bool.{cond_both, cond-false, ltb-false, both_ways, cases_lt, and_left, le-ltb}
+use Rattle.std.proofs.lemmas.Bool.{cond_both, cond-false, ltb-false, cases_lt, and_left, le-ltb}
 use Rattle.format.specs.declared.lease.LeaseRecord.{LeaseRecord}
 use Rattle.format.specs.Blocks.{founding, block_of}
 use Rattle.disk.specs.declared.fault.Refusal.TheVariants.{NotOpen}
@@ -63,10 +63,10 @@ formatting_kept w r (ℕ.suc left) i shut sum enough all =
     let t = touches w.room.disk r (length new) new in
     let n = shut_kept w d shut i in
     writing_elim (λ (y : Outcome (Unit {0})). Kept w y.world) w r new (λ v. formatting v (r + 1) left) (λ f _. n)
-    (λ well. kept_from w (written_at w r new) _ refl (shut_view w d shut) (formatting_kept (written_at w r new) (r + 1) left n.inv shut (omega arith) (omega (arith, t.same.blocks))
+    (λ well. kept_from w (written_at w r new) _ refl (shut_view w d shut) (formatting_kept (written_at w r new) (r + 1) left n.inv shut (omega arith) (omega arith)
     (λ q l. elim (t.bytes_there q) [
       | inl a ↦ ap record_of a.0 ∙ all q (let ne = a.1 well in omega arith)
-      | inr a ↦ ap record_of a.2 ∙ reads_back (founding r) (founding_valid r (omega (arith, i.shape.seated.bounded.resources_high))) ∙ ap (λ (z : ℕ). Some (founding z)) (sym a.0)
+      | inr a ↦ ap record_of a.2 ∙ reads_back (founding r) (founding_valid r (omega arith)) ∙ ap (λ (z : ℕ). Some (founding z)) (sym a.0)
     ])))
 
 -- open keeps a room

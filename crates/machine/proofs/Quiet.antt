@@ -27,7 +27,7 @@ quiet_core s V n known = record {
   known_flight = λ i. absurd (n.flights i);
   known_block = λ {r} {y} e. known r y e;
   known_watch = λ {g} {q} e. let j = n.seats g q in cc;
-  terms = λ {r} a. omega (arith, n.tops r);
+  terms = λ {r} a. omega arith;
   named_held = λ {r} e. let j = n.names r in cc;
   held_named = λ e. is_held e;
   down_idle = λ {h} {r} e. n.seats h r;

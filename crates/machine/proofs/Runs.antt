@@ -54,7 +54,7 @@ run_kept w i [] = record { inv = i; tops = λ r. omega arith }
 run_kept w i (c ∷ cs) =
     let n = perform_kept w i c in
     let m = run_kept (perform c w).world n.inv cs in
-    record { inv = m.inv; tops = λ r. omega (arith, n.tops r, m.tops r) }
+    record { inv = m.inv; tops = λ r. omega arith }
 
 -- one part of a run after another
 pub after_append : (w : World) (xs ys : List Call) → after w (xs ++ ys) ≡ after (after w xs) ys

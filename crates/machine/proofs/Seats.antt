@@ -19,7 +19,7 @@ use Rattle.machine.proofs.Records.{Valid}
 use Rattle.machine.proofs.Places.{at_set, set_same, seat_set}
 use Rattle.machine.proofs.StepKeeps.{new_known}
 use Rattle.machine.proofs.Times.{Ticks}
-use Rattle.machine.proofs.Shape.{Whole, WholePending, Seated, Flying, Inv, Kept, Stand, few_hosts, few_resources}
+use Rattle.machine.proofs.Shape.{Whole, WholePending, Seated, Flying, Inv, Kept, Stand}
 use Rattle.machine.proofs.Kept.{kept_by, logged_of}
 
 -- a vacant seat is a vacant place
@@ -57,7 +57,7 @@ one_stamp m h = record { offset = (host_at m h).offset; up = (host_at m h).up; g
 
 -- there is such a host
 there : {w : World} {h r : ℕ} → Inv w → Stand w h r → h < length w.room.hosts
-there i t = omega (arith, i.shape.seated.hosts_long, few_hosts i.shape t)
+there i t = omega arith
 
 -- a stamp that is used changes nothing else of the hosts
 stamped : (w : World) (h : ℕ) {r : ℕ} → Inv w → Stand w h r → Steady w.room (set w.room.hosts h (one_stamp w.room h))
@@ -76,13 +76,13 @@ module _ (w : World) (h r : ℕ) (kind : Kind) (term : ℕ) where
   -- with it, each write in flight is a record that the room writes, and their marks are apart
   sent_flying : Inv w → Stand w h r → leb 9999 (host_at w.room h).stamp ≡ false → 1 ≤ term → term < 1000000 → Flying w.room.settings (issued w.room h kind r term).flights
   unfolding view
-  sent_flying i t spare low high = let few = few_hosts i.shape t in record {
+  sent_flying i t spare low high = let few : h < 16 = omega arith in record {
     apart = apart_push _ w.room.flights i.shape.flying.apart (λ g n same. new_known (view w) (refl, omega arith) (i.core.known_flight n) (sym same));
     valid = λ f n. elim (in_push f _ w.room.flights n) [
       | inl o ↦ i.shape.flying.valid f o
       | inr o ↦ subst (λ (g : Flight). Valid g.body × (g.body.resource < w.room.settings.resources)) (sym o) (
         record {
-          resource = few_resources i.shape t;
+          resource = omega arith;
           owner = few;
           generation = (i.shape.seated.aged h few).1;
           stamp = omega (arith, leb-false 9999 (host_at w.room h).stamp spare);
@@ -129,13 +129,13 @@ module _ (w : World) (h r : ℕ) (x : Seat) where
           | inl e ↦ ap length e.1 ∙ length-set (get_or m.seats h []) r x ∙ s.row h few
           | inr e ↦ ap length e.1 ∙ s.row g l
         ];
-        aged = λ g l. omega (arith, y.generation g, s.aged g l);
+        aged = λ g l. omega arith;
         whole = λ g q. elim (seat g q) [
           | inl e ↦ subst (λ (o : ℤ). Whole o (seat_at v.room g q)) (ap (λ (n : ℕ). (host_at m n).offset) (sym e.0) ∙ sym (y.offset g)) (subst (Whole (host_at m h).offset) (sym e.2) whole)
           | inr e ↦ subst (λ (o : ℤ). Whole o (seat_at v.room g q)) (sym (y.offset g)) (subst (Whole (host_at m g).offset) (sym e.1) (s.whole g q))
         ];
         spare = λ g q. elim (seat g q) [
-          | inl e ↦ inr (omega (arith, t.host, e.0), omega (arith, t.resource, e.1))
+          | inl e ↦ inr (omega arith, omega arith)
           | inr e ↦ elim (s.spare g q) [ inl n ↦ inl (e.1 ∙ n) | inr n ↦ inr n ]
         ];
       };
@@ -165,13 +165,13 @@ module _ (w : World) (h r : ℕ) (x : Seat) where
         v = turned hosts flights logged log
 
         few : h < 16
-        few = few_hosts i.shape t
+        few = omega arith
 
         there : h < length m.seats
-        there = omega (arith, s.rows_long, few)
+        there = omega arith
 
         seat : (g q : ℕ) → ((g ≡ h) × (q ≡ r) × (seat_at v.room g q ≡ x)) ⊎ ((g ≡ h → q ≡ r → ⊥) × (seat_at v.room g q ≡ seat_at m g q))
-        seat g q = seat_set m h r x there (omega (arith, s.row h few, few_resources i.shape t)) g q
+        seat g q = seat_set m h r x there (omega arith) g q
 
     steady : Steady w.room w.room.hosts
     steady = record { long = i.shape.seated.hosts_long; offset = λ g. refl; up = λ g. refl; generation = λ g. refl }

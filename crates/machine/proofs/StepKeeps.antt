@@ -40,7 +40,7 @@ module _ {s : Settings} {V W : View} (c : Core s V) (t : Step s V W) where
 
   -- no write in flight is younger than the step
   flight_now : {f : Flight} → In f W.flights → f.issued.0 ≤ V.tick
-  flight_now i = elim (t.course.flights i).0 [ inl j ↦ (c.flight_time j).0 | inr j ↦ omega (arith, j.0) ]
+  flight_now i = elim (t.course.flights i).0 [ inl j ↦ (c.flight_time j).0 | inr j ↦ omega arith ]
 
   -- a record that has just landed is watched by nobody
   landed_watch : {r g q u : ℕ} {x y : LeaseRecord} → Landed V W r x → W.seat g q ≡ watching y u → y.mark ≡ x.mark → ⊥
@@ -74,8 +74,8 @@ module _ {s : Settings} {V W : View} (c : Core s V) (t : Step s V W) where
     hold_ours = λ {r = r} {x = x} e late a. elim (alive_back r x a) [
       | inr n ↦ n.0.ours n.1 e late
       | inl b ↦ ours_on e (elim (t.holds e) [
-        | kept old _ ↦ c.hold_ours old (omega (arith, t.course.later)) b
-        | renewing a q _ old _ _ _ ↦ c.hold_ours old (omega (arith, t.course.later)) b
+        | kept old _ ↦ c.hold_ours old (omega arith) b
+        | renewing a q _ old _ _ _ ↦ c.hold_ours old (omega arith) b
         | renewed a v x _ old soon _ _ _ _ ↦ c.hold_ours old soon b
         | granted m i _ old stands early soon _ _ _ ↦ granted_ours old stands early soon b
       ])
@@ -83,17 +83,17 @@ module _ {s : Settings} {V W : View} (c : Core s V) (t : Step s V W) where
     hold_watch = λ {r = r} {k = k} {x = x} {y = y} e late b w same. elim (t.course.blocks b) [
       | inr l ↦ absurd (landed_watch l w same)
       | inl b' ↦ elim (t.holds e) [
-        | kept old _ ↦ old_watch old (omega (arith, t.course.later)) b' w same
-        | renewing a q _ old _ _ _ ↦ old_watch old (omega (arith, t.course.later)) b' w same
+        | kept old _ ↦ old_watch old (omega arith) b' w same
+        | renewing a q _ old _ _ _ ↦ old_watch old (omega arith) b' w same
         | renewed a z x' _ old soon is b'' mark _ ↦ let m : y.mark ≡ a.mark = (let q : x ≡ x' = cc in same ∙ ap (λ (z : LeaseRecord). z.mark) q ∙ mark) in
             elim (t.watches w) [ inl w' ↦ omega (arith, c.asked_watch old w' m) | inr w' ↦ omega (arith, w'.1, c.asked_now old) ]
         | granted m i _ old stands early soon is _ _ ↦ let q : x ≡ claim_record r m k = cc in
-            elim (t.watches w) [ inl w' ↦ omega (arith, c.claim_watch old w' (same ∙ ap (λ (z : LeaseRecord). z.mark) q)) | inr w' ↦ omega (arith, w'.1, (c.claim_mark old).2) ]
+            elim (t.watches w) [ inl w' ↦ omega (arith, c.claim_watch old w' (same ∙ ap (λ (z : LeaseRecord). z.mark) q)) | inr w' ↦ omega arith ]
       ]
     ];
     hold_top = λ e late. elim (t.holds e) [
-      | kept old _ ↦ top_on old (omega (arith, t.course.later))
-      | renewing a q _ old _ _ _ ↦ top_on old (omega (arith, t.course.later))
+      | kept old _ ↦ top_on old (omega arith)
+      | renewing a q _ old _ _ _ ↦ top_on old (omega arith)
       | renewed a z x' _ old soon _ _ _ _ ↦ top_on old soon
       | granted m i _ old stands early soon is top _ ↦ top
     ];
@@ -101,11 +101,11 @@ module _ {s : Settings} {V W : View} (c : Core s V) (t : Step s V W) where
       | kept old _ ↦ omega (arith, c.hold_near old, t.course.later)
       | renewing a q _ old _ _ _ ↦ omega (arith, c.hold_near old, t.course.later)
       | renewed a z x' _ old soon is _ _ _ ↦ omega (arith, c.asked_now old, t.course.later)
-      | granted m i _ old stands early soon is top _ ↦ omega (arith, (c.claim_mark old).2, t.course.later)
+      | granted m i _ old stands early soon is top _ ↦ omega arith
     ];
     claim_mark = λ {h} {r} {m = m} e. elim (t.claims e) [
-      | inl j ↦ let b = c.claim_mark j in (b.0, b.1 ∙ sym (awake h r _ e (λ n. cc)), omega (arith, t.course.later), known_on m b.3)
-      | inr j ↦ (j.owner, j.generation, omega (arith, j.now, t.course.later), j.used)
+      | inl j ↦ let b = c.claim_mark j in (b.0, b.1 ∙ sym (awake h r _ e (λ n. cc)), omega arith, known_on m b.3)
+      | inr j ↦ (j.owner, j.generation, omega arith, j.used)
     ];
     claim_top = λ {r = r} {k = k} {m = m} e a. elim (t.claims e) [
       | inr j ↦ j.above
@@ -119,8 +119,8 @@ module _ {s : Settings} {V W : View} (c : Core s V) (t : Step s V W) where
       | inl j ↦ elim (t.course.blocks b) [
         | inr l ↦ omega (arith, flight_now w, (c.flight_time l.was).1, c.claim_flight j l.was (ap (λ (z : LeaseRecord). z.mark) l.is))
         | inl b' ↦ elim (t.course.flights w).0 [
-          | inl w' ↦ c.claim_alone j (omega (arith, t.course.later)) b' w' there
-          | inr n ↦ absurd (n.1.alone there j (omega (arith, t.course.later)) b')
+          | inl w' ↦ c.claim_alone j (omega arith) b' w' there
+          | inr n ↦ absurd (n.1.alone there j (omega arith) b')
         ]
       ]
     ];
@@ -162,8 +162,8 @@ module _ {s : Settings} {V W : View} (c : Core s V) (t : Step s V W) where
     ];
     named_held = λ e. elim (t.names e) [ inl n ↦ n.1 (c.named_held n.0) | inr n ↦ n ];
     held_named = λ e late. elim (t.holds e) [
-      | kept old n ↦ n late (c.held_named old (omega (arith, t.course.later)))
-      | renewing a q _ old _ _ n ↦ n (c.held_named old (omega (arith, t.course.later)))
+      | kept old n ↦ n late (c.held_named old (omega arith))
+      | renewing a q _ old _ _ n ↦ n (c.held_named old (omega arith))
       | renewed a z x _ old soon _ _ _ n ↦ n
       | granted m i _ old stands early soon is top n ↦ n
     ];

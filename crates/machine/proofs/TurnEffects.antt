@@ -51,7 +51,7 @@ pub record Sending (s : Settings) (V W : View) : Type 0 where
 
 -- nothing was issued
 pub unsent : {s : Settings} {V W : View} → Unsent V W → Sending s V W
-unsent u = record { stamps = λ g. omega (arith, u.stamps g); flights = λ f i. inl (subst (In f) u.flights i) }
+unsent u = record { stamps = λ g. omega arith; flights = λ f i. inl (subst (In f) u.flights i) }
 
 -- one record was issued
 module _ {V W : View} {h r : ℕ} {b : LeaseRecord} (u : Sent V W h r b) where
@@ -59,7 +59,7 @@ module _ {V W : View} {h r : ℕ} {b : LeaseRecord} (u : Sent V W h r b) where
   sent {s} n = record {
     stamps = λ g. elim (cases_eq g h) [
       | inl d ↦ omega (arith, u.stamp, u.used, ap V.stamp d, ap W.stamp d)
-      | inr d ↦ omega (arith, u.others g d)
+      | inr d ↦ omega arith
     ];
     flights = λ f i. elim (in_push f _ V.flights (subst (In f) u.flights i)) [
       | inl j ↦ inl j
@@ -69,11 +69,11 @@ module _ {V W : View} {h r : ℕ} {b : LeaseRecord} (u : Sent V W h r b) where
 
   -- its mark is new
   pub sent_new : New V b.mark
-  sent_new = (u.generation ∙ ap V.gen (sym u.owner), rw u.owner (omega (arith, u.stamp)))
+  sent_new = (u.generation ∙ ap V.gen (sym u.owner), rw u.owner (omega arith))
 
   -- and used from now on
   pub sent_used : ((g : ℕ) → W.gen g ≡ V.gen g) → Known W b.mark
-  sent_used gens = inr (u.generation ∙ sym (gens h) ∙ ap W.gen (sym u.owner), rw u.owner (omega (arith, u.used)))
+  sent_used gens = inr (u.generation ∙ sym (gens h) ∙ ap W.gen (sym u.owner), rw u.owner (omega arith))
 
 -- where the tick, the generations and the blocks stay
 pub calm_course : {s : Settings} {V W : View} → Core s V → Sending s V W → W.tick ≡ V.tick → ((g : ℕ) → W.gen g ≡ V.gen g) → ((q : ℕ) → W.block q ≡ V.block q)
@@ -81,7 +81,7 @@ pub calm_course : {s : Settings} {V W : View} → Core s V → Sending s V W →
 calm_course c n now gens blocks downs = record {
   later = omega arith;
   ages = λ g. inl (gens g, n.stamps g);
-  flights = λ {f} i. elim (n.flights f i) [ inl j ↦ (inl j, omega (arith, (c.flight_time j).1)) | inr j ↦ (inr j, omega (arith, j.0)) ];
+  flights = λ {f} i. elim (n.flights f i) [ inl j ↦ (inl j, omega arith) | inr j ↦ (inr j, omega arith) ];
   blocks = λ {r = q} e. inl (sym (blocks q) ∙ e);
   downs = λ {h} {r} e. downs h r e;
 }
@@ -128,7 +128,7 @@ over_step {V = V} {e = e} l course none ungranted seats = record {
   watches = λ {g} {q} y. elim (seats g q) [ inl d ↦ cc | inr d ↦ inl (sym d.0 ∙ y) ];
   claims = λ {h = g} {r = q} y. elim (seats g q) [ inl d ↦ cc | inr d ↦ inl (sym d.0 ∙ y) ];
   holds = λ {h = g} {r = q} {u = u} y. elim (seats g q) [ inl d ↦ cc | inr d ↦ kept (sym d.0 ∙ y) (λ _ m. past l q (none q) ∙ ap (ended e q) m ∙ cond-false (ends e g q) nobody (lasting g u) d.1) ];
-  tops = λ q. inl (omega (arith, l.tops q, ungranted q));
+  tops = λ q. inl (omega arith);
   names = λ {r = q} {h = g} {u} y. let b = ended_back e q (V.named q) g u (sym (past l q (none q)) ∙ y) in inl (b.0, λ o. elim (seats g q) [ inl d ↦ cc | inr d ↦ (o.0, o.1, d.0 ∙ o.2) ]);
 }
 
@@ -158,7 +158,7 @@ begun_step {s} {V} {W} {e} {k} l c t n is not only new tops = record {
   holds = λ {h = g} {r = q} {k = k'} {u = u'} {p = p} y. elim (back t y) [
     | inl j ↦ new here g q k' u' p j.0 j.1 j.2
     | inr j ↦ kept j.1 (λ late m. elim (cases_eq q e.resource) [
-      | inl i ↦ absurd (j.0 (only g k' u' p (rw i at j.1) (omega (arith, t.tick))) i)
+      | inl i ↦ absurd (j.0 (only g k' u' p (rw i at j.1) (omega arith)) i)
       | inr i ↦ others q i ∙ m
     ])
   ];
