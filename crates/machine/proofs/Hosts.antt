@@ -95,8 +95,8 @@ module _ (w : World) (h : ℕ) (i : Inv w) (few : h < 16) where
         seated = hosted_seated w h downed i few crashed.room.seats (length-set w.room.seats h (replicate 8 seats.Idle) ∙ s.rows_long)
             (λ g n. elim (row_cases g) [ inl d ↦ ap length d.1 ∙ length-replicate 8 seats.Idle | inr d ↦ ap length d.1 ∙ s.row g n ]) (s.aged h few)
             (λ g q. elim (seat_cases g q) [
-              | inl d ↦ subst (Whole (host_at crashed.room g).offset) (sym d.1) tt
-              | inr d ↦ subst (λ (z : ℤ). Whole z (seat_at crashed.room g q)) (sym (offset g)) (subst (Whole (host_at w.room g).offset) (sym d.1) (s.whole g q))
+              | inl d ↦ rw d.1 tt
+              | inr d ↦ rw (offset g, d.1) (s.whole g q)
             ])
             (λ g q. elim (seat_cases g q) [ inl d ↦ inl d.1 | inr d ↦ elim (s.spare g q) [ inl n ↦ inl (d.1 ∙ n) | inr n ↦ inr n ] ]);
         flying = i.shape.flying;
@@ -105,8 +105,8 @@ module _ (w : World) (h : ℕ) (i : Inv w) (few : h < 16) where
       }) refl
       (Move.crashes h up (here w h downed i few (λ x. x.up)) refl (same w h downed i few (λ x. x.generation) refl)
       (λ g q. elim (seat_cases g q) [
-        | inl d ↦ inl (d.0, ap (placed (host_at crashed.room g).offset) d.1)
-        | inr d ↦ inr (d.0, ap (placed (host_at crashed.room g).offset) d.1 ∙ ap (λ (z : ℤ). placed z (seat_at w.room g q)) (offset g), else w h downed i few (λ x. x.up) g d.0)
+        | inl d ↦ inl (d.0, rw d.1)
+        | inr d ↦ inr (d.0, rw (offset g, d.1), else w h downed i few (λ x. x.up) g d.0)
       ])
       (λ q. refl) (logged_of w crashed (plain_entry w.room events.Crashed h 0 0) room refl) (record { flights = refl; stamps = same w h downed i few (λ x. x.stamp) refl }))
 
@@ -125,10 +125,10 @@ restarted_kept w h i few down young =
     let x : Host = record { offset = (host_at m h).offset; up = true; generation = (host_at m h).generation + 1; stamp = 0 } in
     let offset = same w h x i few (λ y. y.offset) refl in
     kept_by w (at_room w (brought_up m h)) i
-    (hosted_shape w h x i few (omega arith, omega (arith, leb-false 65535 (host_at m h).generation young)) (λ g q. subst (λ (z : ℤ). Whole z (seat_at m g q)) (sym (offset g)) (i.shape.seated.whole g q))) refl
+    (hosted_shape w h x i few (omega arith, omega (arith, leb-false 65535 (host_at m h).generation young)) (λ g q. rw (offset g) (i.shape.seated.whole g q))) refl
     (Move.returns h down (here w h x i few (λ y. y.up)) (here w h x i few (λ y. y.generation)) (here w h x i few (λ y. y.stamp))
     (record { ups = else w h x i few (λ y. y.up); gens = else w h x i few (λ y. y.generation); stamps = else w h x i few (λ y. y.stamp) }) refl
-    (λ g q. ap (λ (z : ℤ). placed z (seat_at m g q)) (offset g)) (λ q. refl) (record { names = λ q. refl; tops = λ q. refl }) refl)
+    (λ g q. rw (offset g)) (λ q. refl) (record { names = λ q. refl; tops = λ q. refl }) refl)
 
 -- restart keeps a room
 pub restart_kept : (w : World) (h : ℕ) → Inv w → Kept w (restart_call w h).world
@@ -144,14 +144,14 @@ clocked_kept w h z i few shut =
     let x : Host = record { offset = z; up = (host_at m h).up; generation = (host_at m h).generation; stamp = (host_at m h).stamp } in
     let v = at_room w (with_offset m h z) in
     let none = (i.shape.closed shut).seats in
-    kept_by w v i (hosted_shape w h x i few (i.shape.seated.aged h few) (λ g q. subst (Whole (host_at v.room g).offset) (sym (none g q)) tt)) refl
+    kept_by w v i (hosted_shape w h x i few (i.shape.seated.aged h few) (λ g q. rw (none g q) tt)) refl
     (Move.sets (shut_untouched w (i.shape.closed shut))
     (record {
       tick = refl;
       ups = same w h x i few (λ y. y.up) refl;
       gens = same w h x i few (λ y. y.generation) refl;
       stamps = same w h x i few (λ y. y.stamp) refl;
-      seats = λ g q. ap (placed (host_at v.room g).offset) (none g q) ∙ sym (ap (placed (host_at m g).offset) (none g q));
+      seats = λ g q. rw (none g q);
       unlogged = record { names = λ q. refl; tops = λ q. refl };
     })
     refl (λ q. refl))

@@ -131,8 +131,8 @@ module _ (w : World) (h r : ℕ) (x : Seat) where
         ];
         aged = λ g l. omega arith;
         whole = λ g q. elim (seat g q) [
-          | inl e ↦ subst (λ (o : ℤ). Whole o (seat_at v.room g q)) (ap (λ (n : ℕ). (host_at m n).offset) (sym e.0) ∙ sym (y.offset g)) (subst (Whole (host_at m h).offset) (sym e.2) whole)
-          | inr e ↦ subst (λ (o : ℤ). Whole o (seat_at v.room g q)) (sym (y.offset g)) (subst (Whole (host_at m g).offset) (sym e.1) (s.whole g q))
+          | inl e ↦ rw (y.offset g, e.2, e.0) whole
+          | inr e ↦ rw (y.offset g, e.1) (s.whole g q)
         ];
         spare = λ g q. elim (seat g q) [
           | inl e ↦ inr (omega arith, omega arith)
@@ -147,10 +147,10 @@ module _ (w : World) (h r : ℕ) (x : Seat) where
       awake = t.up;
       ups = y.up;
       gens = y.generation;
-      here = elim (seat h r) [ inl e ↦ ap (λ (o : ℤ). placed o (seat_at v.room h r)) (y.offset h) ∙ ap (placed (host_at m h).offset) e.2 ∙ is | inr e ↦ absurd (e.0 refl refl) ];
+      here = elim (seat h r) [ inl e ↦ rw (y.offset h, e.2) is | inr e ↦ absurd (e.0 refl refl) ];
       seats = λ g q. elim (seat g q) [
         | inl e ↦ inl (e.0, e.1)
-        | inr e ↦ inr (e.0, ap (λ (o : ℤ). placed o (seat_at v.room g q)) (y.offset g) ∙ ap (placed (host_at m g).offset) e.1)
+        | inr e ↦ inr (e.0, rw (y.offset g, e.1))
       ];
       blocks = λ q. refl;
     }))
