@@ -22,14 +22,14 @@ use Rattle.machine.specs.Seats.{hold, Hold, claim, Claim, same_record, same_mark
 use Rattle.machine.specs.Claiming.{check_tests, check_wait, stolen, checked, check_call}
 use Rattle.machine.specs.Steps.{lease_entry, read_at, reading_block}
 use Rattle.machine.specs.Holding.{is_own, late, confirmed, confirm_call}
-use Rattle.machine.specs.View.{Asked, held, asked, ticked, View, view, claim_record}
+use Rattle.machine.specs.View.{Asked, held, ticked, View, view, claim_record}
 use Rattle.machine.specs.Moves.{Logged, Move, note}
 use Rattle.machine.proofs.Core.{landed}
 use Rattle.machine.proofs.CoreFacts.{hold_claim}
 use Rattle.machine.proofs.Tests.{unless_elim, by_option}
 use Rattle.machine.proofs.Same.{record_same, mark_same}
 use Rattle.machine.proofs.Times.{Ticks, log_ticked}
-use Rattle.machine.proofs.Shape.{WholePending, Inv, Kept, Stand, stands}
+use Rattle.machine.proofs.Shape.{Inv, Kept, Stand, stands}
 use Rattle.machine.proofs.Kept.{kept_same, kept_from, logged_of, read_view, read_kept, reading_elim}
 use Rattle.machine.proofs.Seats.{claim_is, hold_is, turned, seat_turn, logged_turn}
 
@@ -129,8 +129,8 @@ confirmed_answers w h r x a y i t c pending room soon b =
     let L = m.settings.lease in
     let n = ticked o a.issued.0 in
     let p = hold_is o (seat_at m h r) x c (i.shape.seated.whole h r) in
-    let whole : Ticks o a.issued.0 = subst (WholePending o) pending p.4 in
-    let was : (view w).seat h r ≡ held x.term (ticked o x.until) (Some (record { mark = a.mark; at = n })) = p.0 ∙ ap (λ (z : Option Pending). held x.term (ticked o x.until) (asked o z)) pending in
+    let whole : Ticks o a.issued.0 = rw pending at p.4 in
+    let was : (view w).seat h r ≡ held x.term (ticked o x.until) (Some (record { mark = a.mark; at = n })) = p.0 ∙ rw pending in
     let e : LogEntry = lease_entry m events.Renewed h r x.term (a.issued.0 +ℤ pos L) in
     let until : ticked o (a.issued.0 +ℤ pos L) ≡ n + L = omega (arith, ints) in
     let told = log_ticked o (a.issued.0 +ℤ pos L) (omega (arith, ints)) ∙ until in

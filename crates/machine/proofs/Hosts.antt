@@ -1,5 +1,5 @@
 -- What crash, restart and set clock keep.
-use Rattle.std.proofs.Common.{◌≡◌, ℕ, ◌+◌, ◌<◌, ◌≤◌, true, false, not, ltb, leb, ◌⊎◌, List, [], length, get_or, replicate, set, ℤ, sym, refl, ap, ◌∙◌, subst, inl, inr, arith}
+use Rattle.std.proofs.Common.{◌≡◌, ℕ, ◌+◌, ◌<◌, ◌≤◌, true, false, not, ltb, leb, ◌⊎◌, List, [], length, get_or, replicate, set, ℤ, refl, ap, ◌∙◌, inl, inr, arith}
 use Rattle.std.proofs.lemmas.List.{length-set, length-replicate, get_or-replicate, get_or_past, get_or-set_same, get_or-set_other}
 use Rattle.std.proofs.lemmas.Bool.{not-false, ltb-true, leb-false, cases_lt}
 use Rattle.machine.specs.declared.types.Host.{Host}
@@ -11,7 +11,7 @@ use Rattle.machine.specs.Outcomes.{Outcome}
 use Rattle.machine.specs.Setup.{clock_tests, set_clock_call, with_offset}
 use Rattle.machine.specs.Hosts.{restart_tests, crash_tests, crash_call, restart_call, taken_down, brought_up}
 use Rattle.machine.specs.Steps.{plain_entry}
-use Rattle.machine.specs.View.{placed, view}
+use Rattle.machine.specs.View.{view}
 use Rattle.machine.specs.Moves.{Move}
 use Rattle.machine.proofs.Places.{at_set, set_same}
 use Rattle.machine.proofs.Tests.{unless_elim}

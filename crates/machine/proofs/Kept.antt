@@ -2,7 +2,7 @@
 use Rattle.std.proofs.Common.{◌≡◌, ℕ, ◌+◌, ◌<◌, Bool, true, false, cond, ◌&&◌, ltb, leb, List, [], ◌∷◌, ◌++◌, length, take, set, Some, None, Ok, Err, Option, Result, sym, refl, ap, ◌∙◌, subst, inl, inr, arith}
 use mathlib.Core.Path.{fun_ext}
 use Rattle.std.proofs.lemmas.List.{take_more_set}
-use Rattle.std.proofs.lemmas.Bool.{leb-false, cond-true, and_from, lt-ltb}
+use Rattle.std.proofs.lemmas.Bool.{leb-false, lt-ltb}
 use Rattle.disk.specs.declared.fault.Fault.{Fault}
 use Rattle.disk.specs.Model.{DiskModel, access_answer, after_read, after_write, block}
 use Rattle.format.specs.declared.lease.LeaseRecord.{LeaseRecord}
@@ -94,7 +94,7 @@ same_record m d q = ap (λ (bs : List ℕ). cond (m.opened && ltb q m.settings.r
 
 -- block r reads as what its bytes say
 pub record_here : (m : Room) (r : ℕ) → m.opened ≡ true → r < m.settings.resources → record_at m r ≡ record_of (block m.disk r).bytes
-record_here m r o l = cond-true (m.opened && ltb r m.settings.resources) (record_of (block m.disk r).bytes) None (and_from m.opened (ltb r m.settings.resources) o (lt-ltb r m.settings.resources l))
+record_here m r o l = rw (o, lt-ltb r m.settings.resources l)
 
 module _ (w : World) (r : ℕ) where
   -- a read leaves every block as it reads

@@ -1,6 +1,6 @@
 -- Each move of a room is a step, so it keeps the core, and forgets no grant.
-use Rattle.std.proofs.Common.{◌≡◌, ℕ, ◌+◌, ◌*◌, ◌<◌, ◌≤◌, max, true, false, eqb, ◌⊎◌, Some, None, Option, sym, refl, ap, ◌∙◌, subst, inl, inr, arith}
-use Rattle.std.proofs.lemmas.Bool.{cases_eq, eq-eqb, ne_eqb, cond-true, cond-false}
+use Rattle.std.proofs.Common.{◌≡◌, ℕ, ◌+◌, ◌*◌, ◌<◌, ◌≤◌, true, false, ◌⊎◌, Some, None, Option, sym, refl, ap, ◌∙◌, subst, inl, inr, arith}
+use Rattle.std.proofs.lemmas.Bool.{cases_eq, eq-eqb, ne_eqb}
 use Rattle.format.specs.declared.lease.Mark.{Mark}
 use Rattle.format.specs.declared.lease.LeaseRecord.{LeaseRecord}
 use Rattle.machine.specs.declared.types.Flight.{Flight}
@@ -8,7 +8,7 @@ use Rattle.machine.specs.declared.settings.Settings.{Settings}
 use Rattle.format.specs.declared.events.Event.TheVariants as events
 use Rattle.machine.specs.View.{Asked, Place, idle, claimed, held, View, In, claim_record}
 use Rattle.machine.specs.Moves.{vacant, Turn, Unlogged, Logged, note, Unsent, Sent, Open, Still, Unwritten, Move}
-use Rattle.machine.proofs.Core.{landed, Ours, Known, New, Core}
+use Rattle.machine.proofs.Core.{landed, Ours, Known, Core}
 use Rattle.machine.proofs.Step.{Issued, Landed, Claims, kept, renewing, renewed, granted, Granting, Step}
 use Rattle.machine.proofs.StepKeeps.{step_keeps}
 use Rattle.machine.proofs.Quiet.{quiet_core}
@@ -39,14 +39,8 @@ module _ {s : Settings} {V W : View} (c : Core s V) where
           let em : m ≡ m' = cc in
           let ek : x.term + 1 ≡ k = cc in
           let ei : V.tick ≡ i = cc in
-          record {
-            owner = ap (λ (z : Mark). z.owner) (sym em) ∙ n.owner ∙ sym eg;
-            generation = ap (λ (z : Mark). z.generation) (sym em) ∙ n.generation ∙ sym (t.gens h) ∙ ap W.gen (sym eg);
-            new = subst (New V) em (sent_new n);
-            used = subst (Known W) em (sent_used n t.gens);
-            now = sym ei;
-            above = rw eq (omega (arith, c.terms (landed b), l.tops r));
-          }
+          rw (eg, eq, ← em, ← ek, ← ei)
+          (record { owner = n.owner; generation = n.generation ∙ sym (t.gens h); new = sent_new n; used = sent_used n t.gens; now = refl; above = omega (arith, c.terms (landed b), l.tops r) })
 
   -- what a holder issues: no claim stands, and nobody else holds
   holder_issues : {h r k u : ℕ} {x : Place} {b : LeaseRecord} {p : Option Asked} → Turn V W h r x → Sent V W h r b → V.seat h r ≡ held k u p → V.tick < u → W.top b.resource ≤ b.term
@@ -92,14 +86,14 @@ module _ {s : Settings} {V W : View} (c : Core s V) where
       (λ here g q k' u' p d f y. granted m i (cc) (cc) (let o : claim_record r m k ≡ claim_record q m k' = cc in cc) early soon (cc) (let w = top in cc) (cc))
       (λ q. elim (cases_eq q r) [
         | inl d ↦ inr (subst (Granting V W) (sym d) granting)
-        | inr d ↦ inl (l.tops q ∙ ap (max (V.top q)) (cond-false (eqb r q) k 0 (ne_eqb r q (λ y. d (sym y)))) ∙ omega arith)
+        | inr d ↦ inl (omega (arith, rw (ne_eqb r q (λ y. d (sym y))) at (l.tops q)))
       ])
     where
       above : V.top r < k
       above = c.claim_top v (landed b)
 
       top : W.top r ≡ k
-      top = l.tops r ∙ ap (max (V.top r)) (cond-true (eqb r r) k 0 (eq-eqb r r refl)) ∙ omega (arith, above)
+      top = omega (arith, above, rw (eq-eqb r r refl) at (l.tops r))
 
       granting : Granting V W r
       granting = record {
@@ -175,7 +169,7 @@ move_keeps s V W c (Move.loses f t g blocks) = stepped c (still_step c t (λ e i
 move_keeps s V W c (Move.lands f t g blocks) = stepped c (still_step c t (λ e i. (g.flights e i).0) (λ q y e. elim (blocks q) [
   | inr d ↦ inl (sym d ∙ e)
   | inl d ↦ let is : f.body ≡ y = cc in
-      inr (record { flight = f; was = g.was; is = is; there = ap (λ (z : LeaseRecord). z.resource) (sym is) ∙ sym d.0; gone = λ {f = e'} i m. (g.flights e' i).1 (m ∙ ap (λ (z : LeaseRecord). z.mark) (sym is)) })
+      rw (← is) (inr (record { flight = f; was = g.was; is = refl; there = sym d.0; gone = λ {f = e'} i m. (g.flights e' i).1 m }))
 ]))
 move_keeps s V W c (Move.spoils r t n blocks) = stepped c (still_step c t (λ f i. subst (In f) n i) (λ q y e. elim (blocks q) [ inl d ↦ cc | inr d ↦ inl (sym d ∙ e) ]))
 move_keeps s V W c (Move.notes h r x t l n v b) = stepped c (record {

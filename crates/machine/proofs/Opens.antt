@@ -1,6 +1,6 @@
 -- Opening a room where nothing has happened yet.
-use Rattle.std.proofs.Common.{◌≡◌, ℕ, ◌+◌, ◌<◌, ◌≤◌, true, false, ◌&&◌, ltb, [], ◌∷◌, List, length, Some, None, sym, refl, ap, ◌∙◌, inl, inr, arith}
-use Rattle.std.proofs.lemmas.Bool.{cond_both, cond-false, ltb-false, cases_lt, and_left, le-ltb}
+use Rattle.std.proofs.Common.{◌≡◌, ℕ, ◌+◌, ◌<◌, ◌≤◌, true, false, ltb, [], ◌∷◌, List, length, Some, None, sym, refl, ap, ◌∙◌, inl, inr, arith}
+use Rattle.std.proofs.lemmas.Bool.{cond_both, ltb-false, cases_lt, le-ltb}
 use Rattle.format.specs.declared.lease.LeaseRecord.{LeaseRecord}
 use Rattle.format.specs.Blocks.{founding, block_of}
 use Rattle.disk.specs.declared.fault.Refusal.TheVariants.{NotOpen}
@@ -19,7 +19,7 @@ use Rattle.machine.proofs.Kept.{kept_by, kept_same, kept_from, same_view, still_
 
 -- a closed room reads no block
 pub shut_record : (m : Room) (q : ℕ) → m.opened ≡ false → record_at m q ≡ None
-shut_record m q shut = cond-false (m.opened && ltb q m.settings.resources) (record_of (block m.disk q).bytes) None (and_left m.opened (ltb q m.settings.resources) shut)
+shut_record m q shut = rw shut
 
 -- the disk of a closed room is written
 module _ (w : World) (d : DiskModel) (shut : w.room.opened ≡ false) where
@@ -50,7 +50,7 @@ opened_kept w i shut enough all =
     founded_is : (r : ℕ) (y : LeaseRecord) → record_at v.room r ≡ Some y → y ≡ founding r
     founded_is r y e = elim (cases_lt r w.room.settings.resources) [
       | inl l ↦ let f = record_here v.room r refl l in let g = all r l in cc
-      | inr l ↦ let f = cond-false (ltb r w.room.settings.resources) (record_of (block w.room.disk r).bytes) None (le-ltb r w.room.settings.resources l) in cc
+      | inr l ↦ let f = rw (le-ltb r w.room.settings.resources l) at e in cc
     ]
 
 -- formatting keeps a room, whether it gets to the end or not

@@ -55,10 +55,10 @@ module _ {s : Settings} {V W : View} (c : Core s V) (t : Step s V W) where
 
   -- of r's grant nothing but the claim can be read
   granted_ours : {h r k i : ℕ} {m : Mark} {x : LeaseRecord} → V.seat h r ≡ claimed m k i → V.block r ≡ Some (claim_record r m k) → i + (2 * s.delay + 1) ≤ V.tick → V.tick < i + s.lease → Alive V r x → Ours V h k x
-  granted_ours e b early late a =
-      let q = only_claim c e b early late a in
+  granted_ours {r = r} {k = k} {m = m} {x = x} e b early late a =
+      let q : x ≡ claim_record r m k = only_claim c e b early late a in
       let o = c.claim_mark e in
-      record { kind = ap (λ (z : LeaseRecord). z.kind) q; owner = ap (λ (z : LeaseRecord). z.mark.owner) q ∙ o.0; generation = ap (λ (z : LeaseRecord). z.mark.generation) q ∙ o.1; term = ap (λ (z : LeaseRecord). z.term) q }
+      rw q (record { kind = refl; owner = o.0; generation = o.1; term = refl })
 
   -- whoever watches the record of a lease that was not extended waits for it
   old_watch : {h r k u g v : ℕ} {p : Option Asked} {x y : LeaseRecord} → V.seat h r ≡ held k u p → V.tick < u → V.block r ≡ Some x → W.seat g r ≡ watching y v → y.mark ≡ x.mark → u ≤ v + s.lease

@@ -1,6 +1,6 @@
 -- What a turn of a host, and an entry of the log, leave of the rest.
 use Rattle.std.proofs.Common.{◌≡◌, ℕ, ◌<◌, ◌≤◌, Bool, true, false, ◌&&◌, eqb, ◌⊎◌, Some, None, Option, sym, refl, ap, ◌∙◌, subst, inl, inr, arith}
-use Rattle.std.proofs.lemmas.Bool.{cases_eq, cond-true, cond-false, eq-eqb, ne_eqb}
+use Rattle.std.proofs.lemmas.Bool.{cases_eq, eq-eqb, ne_eqb}
 use Rattle.std.proofs.lemmas.Bool.Decides.{nat_tests}
 use Rattle.format.specs.declared.lease.Mark.{Mark}
 use Rattle.format.specs.declared.lease.LeaseRecord.{LeaseRecord}
@@ -38,11 +38,11 @@ vacant_held _ e = refl
 -- an entry that ends none leaves who is named
 unended : (e : LogEntry) (r : ℕ) (o : Owner) → ((h : ℕ) → ends e h r ≡ false) → ended e r o ≡ o
 unended e r nobody n = refl
-unended e r (lasting h u) n = cond-false (ends e h r) nobody (lasting h u) (n h)
+unended e r (lasting h u) n = rw (n h)
 
 -- an entry that begins no lease of r ends one, or none
 past : {V W : View} {e : LogEntry} → Logged V W e → (r : ℕ) → begins e r ≡ false → W.named r ≡ ended e r (V.named r)
-past {V} {e = e} l r b = l.names r ∙ cond-false (begins e r) (lasting e.host e.until.0) (ended e r (V.named r)) b
+past {V} {e = e} l r b = l.names r ∙ rw b
 
 -- what is in flight was so before or was issued just now, and no stamp is forgotten
 pub record Sending (s : Settings) (V W : View) : Type 0 where
@@ -63,17 +63,17 @@ module _ {V W : View} {h r : ℕ} {b : LeaseRecord} (u : Sent V W h r b) where
     ];
     flights = λ f i. elim (in_push f _ V.flights (subst (In f) u.flights i)) [
       | inl j ↦ inl j
-      | inr j ↦ inr (ap (λ (e : Flight). e.issued.0) j, subst (Issued s V W) (sym (ap (λ (e : Flight). e.body) j)) n)
+      | inr j ↦ rw j (inr (refl, n))
     ];
   }
 
   -- its mark is new
   pub sent_new : New V b.mark
-  sent_new = (u.generation ∙ ap V.gen (sym u.owner), rw u.owner (omega arith))
+  sent_new = rw u.owner (u.generation, omega arith)
 
   -- and used from now on
   pub sent_used : ((g : ℕ) → W.gen g ≡ V.gen g) → Known W b.mark
-  sent_used gens = inr (u.generation ∙ sym (gens h) ∙ ap W.gen (sym u.owner), rw u.owner (omega arith))
+  sent_used gens = rw u.owner (inr (u.generation ∙ sym (gens h), omega arith))
 
 -- where the tick, the generations and the blocks stay
 pub calm_course : {s : Settings} {V W : View} → Core s V → Sending s V W → W.tick ≡ V.tick → ((g : ℕ) → W.gen g ≡ V.gen g) → ((q : ℕ) → W.block q ≡ V.block q)
@@ -127,7 +127,7 @@ over_step {V = V} {e = e} l course none ungranted seats = record {
   course = course;
   watches = λ {g} {q} y. elim (seats g q) [ inl d ↦ cc | inr d ↦ inl (sym d.0 ∙ y) ];
   claims = λ {h = g} {r = q} y. elim (seats g q) [ inl d ↦ cc | inr d ↦ inl (sym d.0 ∙ y) ];
-  holds = λ {h = g} {r = q} {u = u} y. elim (seats g q) [ inl d ↦ cc | inr d ↦ kept (sym d.0 ∙ y) (λ _ m. past l q (none q) ∙ ap (ended e q) m ∙ cond-false (ends e g q) nobody (lasting g u) d.1) ];
+  holds = λ {h = g} {r = q} {u = u} y. elim (seats g q) [ inl d ↦ cc | inr d ↦ kept (sym d.0 ∙ y) (λ _ m. past l q (none q) ∙ rw (m, d.1)) ];
   tops = λ q. inl (omega arith);
   names = λ {r = q} {h = g} {u} y. let b = ended_back e q (V.named q) g u (sym (past l q (none q)) ∙ y) in inl (b.0, λ o. elim (seats g q) [ inl d ↦ cc | inr d ↦ (o.0, o.1, d.0 ∙ o.2) ]);
 }
@@ -170,7 +170,7 @@ begun_step {s} {V} {W} {e} {k} l c t n is not only new tops = record {
 }
   where
     here : W.named e.resource ≡ lasting e.host e.until.0
-    here = let r = e.resource in l.names r ∙ cond-true (begins e r) (lasting e.host e.until.0) (ended e r (V.named r)) (is r ∙ eq-eqb r r refl)
+    here = let r = e.resource in l.names r ∙ rw (is r ∙ eq-eqb r r refl)
 
     others : (q : ℕ) → (q ≡ e.resource → ⊥) → W.named q ≡ V.named q
     others q d = past l q (is q ∙ ne_eqb e.resource q (λ y. d (sym y))) ∙ unended e q (V.named q) (λ g. not g q)
