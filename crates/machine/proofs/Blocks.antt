@@ -1,5 +1,5 @@
 -- What an access leaves of a disk.
-use Rattle.std.proofs.Common.{◌≡◌, ℕ, ◌<◌, Bool, true, false, cond, eqb, ltb, ◌⊎◌, List, length, Ok, Err, Result, sym, refl, ap, ◌∙◌, inl, inr, length-set}
+use Rattle.std.proofs.Common.{◌≡◌, ℕ, ◌<◌, Bool, true, false, cond, eqb, ltb, ◌⊎◌, List, length, Ok, Err, Result, refl, inl, inr, length-set}
 use Rattle.std.proofs.lemmas.Bool.{and_parts, ltb-true}
 use Rattle.disk.specs.declared.fault.Fault.{Fault}
 use Rattle.disk.specs.Model.{Block, DiskModel, no_block, block, block_length, count, fails, failure, inadmissible, after_failure, after_success, with_block, reaches, access_answer, after_access, after_read}
@@ -31,8 +31,8 @@ module _ (d : DiskModel) (r : ℕ) (bytes : List ℕ) where
   touches_by x y true false l = record {
     same = replaced (after_success (block d r) bytes) (l refl) refl;
     bytes_there = λ q. elim (at_set d.blocks r (after_success (block d r) bytes) no_block (l refl) q) [
-      | inl a ↦ inr (a.0, refl, ap (λ (b : Block). b.bytes) a.1)
-      | inr a ↦ inl (ap (λ (b : Block). b.bytes) a.1, λ _. a.0)
+      | inl a ↦ inr (a.0, refl, rw a.1)
+      | inr a ↦ inl (rw a.1, λ _. a.0)
     ];
   }
 
@@ -45,7 +45,7 @@ touches d r size bytes =
 
 -- a read leaves the bytes of every block
 pub read_bytes : (d : DiskModel) (r size q : ℕ) → (block (after_read d r size) q).bytes ≡ (block d q).bytes
-read_bytes d r size q = elim ((touches d r size (block d r).bytes).bytes_there q) [ inl e ↦ e.0 | inr e ↦ e.2 ∙ ap (λ (n : ℕ). (block d n).bytes) (sym e.0) ]
+read_bytes d r size q = elim ((touches d r size (block d r).bytes).bytes_there q) [ inl e ↦ e.0 | inr e ↦ rw (e.2, e.0) ]
 
 -- and so does an access that fails
 pub failed_bytes : (d : DiskModel) (r size : ℕ) (bytes : List ℕ) (f : Fault) → access_answer d r size ≡ Err f → (q : ℕ) → (block (after_access d r size bytes) q).bytes ≡ (block d q).bytes

@@ -1,5 +1,5 @@
 -- What the core of a room says at once.
-use Rattle.std.proofs.Common.{◌≡◌, ℕ, ◌+◌, ◌*◌, ◌<◌, ◌≤◌, Some, Option, refl, ap, ◌∙◌, subst, arith}
+use Rattle.std.proofs.Common.{◌≡◌, ℕ, ◌+◌, ◌*◌, ◌<◌, ◌≤◌, Some, Option, refl, ap, ◌∙◌, arith}
 use Rattle.format.specs.declared.lease.Mark.{Mark}
 use Rattle.format.specs.declared.lease.LeaseRecord.{LeaseRecord}
 use Rattle.machine.specs.declared.settings.Settings.{Settings}
@@ -10,7 +10,7 @@ use Rattle.machine.proofs.Core.{Alive, flying, landed, Known, Core}
 module _ {s : Settings} {V : View} (c : Core s V) where
   -- the mark of what can be read is known
   pub known_alive : (r : ℕ) (x : LeaseRecord) → Alive V r x → Known V x.mark
-  known_alive r x (flying f i e q) = subst (λ (y : LeaseRecord). Known V y.mark) e (c.known_flight i)
+  known_alive r x (flying f i e q) = rw e at (c.known_flight i)
   known_alive r x (landed e) = c.known_block e
 
   -- two that validly hold one resource are one

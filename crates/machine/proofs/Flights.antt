@@ -24,7 +24,7 @@ in_push g f (e ∷ fs) (there i) = elim (in_push g f fs i) [ inl j ↦ inl (ther
 -- one more write, of another mark
 pub apart_push : (f : Flight) (fs : List Flight) → Apart fs → ((g : Flight) → In g fs → g.body.mark ≡ f.body.mark → ⊥) → Apart (fs ++ (f ∷ []))
 apart_push f [] a n = (λ g i. elim i [ ], tt)
-apart_push f (e ∷ fs) a n = (λ g i same. elim (in_push g f fs i) [ inl j ↦ a.0 g j same | inr j ↦ n e here (sym (ap (λ (z : Flight). z.body.mark) (sym j) ∙ same)) ], apart_push f fs a.1 (λ g i. n g (there i)))
+apart_push f (e ∷ fs) a n = (λ g i same. elim (in_push g f fs i) [ inl j ↦ a.0 g j same | inr j ↦ n e here (sym (rw j at same)) ], apart_push f fs a.1 (λ g i. n g (there i)))
 
 -- the write that a mark names, and what is left without it
 module _ (m : Mark) where

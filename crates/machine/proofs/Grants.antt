@@ -94,7 +94,7 @@ checked_answers w h r x y i t c room early soon b =
       noted = omega (arith, (logged_of w v e room refl).tops r, cond-true (eqb r r) x.term 0 (eq-eqb r r refl));
     } in
     answered (Granting r) w v _
-    (logged_turn w h r x' i t (omega (arith, ints), p.2, p.3, tt) (ap (λ (z : ℕ). held x.term z None) until) e room
+    (logged_turn w h r x' i t (omega (arith, ints), p.2, p.3, tt) (rw until) e room
     (λ turn l u. Move.grants h r x.mark x.term n turn (subst (Logged (view w) (view v)) (ap (note m.tick events.Granted h r x.term) told) l) u p.0 stands_there
     (omega (arith, ints)) (omega (arith, ints))))
     grant)
@@ -140,7 +140,7 @@ confirmed_answers w h r x a y i t c pending room soon b =
     let ours = i.core.hold_ours was late (landed b) in
     cond_both (same_mark y.mark a.mark) _ _ (Answers Unstolen w)
     (λ same. answered Unstolen w v confirms.Renewed
-    (logged_turn w h r x' i t (omega (arith, ints), p.2, p.3, tt) (ap (λ (z : ℕ). held x.term z None) until) e room
+    (logged_turn w h r x' i t (omega (arith, ints), p.2, p.3, tt) (rw until) e room
     (λ turn l u. Move.confirms h r x.term (ticked o x.until) (record { mark = a.mark; at = n }) y turn (subst (Logged (view w) (view v)) (ap (note m.tick events.Renewed h r x.term) told) l) u
     was late b (mark_same y.mark a.mark same)))
     tt)

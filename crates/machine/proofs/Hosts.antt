@@ -83,8 +83,8 @@ module _ (w : World) (h : ℕ) (i : Inv w) (few : h < 16) where
   -- each seat is one of its own, which is idle, or as it was
   seat_cases : (g q : ℕ) → ((g ≡ h) × (seat_at crashed.room g q ≡ seats.Idle)) ⊎ ((g ≡ h → ⊥) × (seat_at crashed.room g q ≡ seat_at w.room g q))
   seat_cases g q = elim (row_cases g) [
-    | inl d ↦ inl (d.0, ap (λ (ys : List Seat). get_or ys q seats.Idle) d.1 ∙ idle_row q)
-    | inr d ↦ inr (d.0, ap (λ (ys : List Seat). get_or ys q seats.Idle) d.1)
+    | inl d ↦ inl (d.0, rw d.1 (idle_row q))
+    | inr d ↦ inr (d.0, rw d.1)
   ]
 
   -- a crash is a move

@@ -12,10 +12,10 @@ use Rattle.format.proofs.Decoding.{decodes}
 use Rattle.format.proofs.Storing.{reads_exactly}
 use Rattle.machine.specs.declared.types.Flight.{Flight}
 use Rattle.machine.specs.declared.settings.Settings.{Settings}
-use Rattle.machine.specs.Room.{Room, World, host_at, at_room, with_disk}
+use Rattle.machine.specs.Room.{Room, World, at_room, with_disk}
 use Rattle.machine.specs.Outcomes.{Outcome}
 use Rattle.machine.specs.Steps.{judged_by, read_at, reading_block, written_at}
-use Rattle.machine.specs.View.{placed, View, record_by, record_of, view, In, owner, nobody, highest, record_at}
+use Rattle.machine.specs.View.{View, record_by, record_of, view, In, nobody, record_at}
 use Rattle.machine.specs.Soundness.{entries}
 use Rattle.machine.specs.Moves.{Logged, Still, Untouched, Written, Move}
 use Rattle.machine.proofs.Core.{Core}
@@ -60,10 +60,10 @@ still_of w d opened fs = record { tick = refl; ups = λ h. refl; gens = λ h. re
 pub shut_untouched : (w : World) → Closed w.room.seats w.room.flights w.room.logged → Untouched (view w)
 unfolding view
 shut_untouched w c = record {
-  seats = λ h r. ap (placed (host_at w.room h).offset) (c.seats h r);
-  flights = λ {f} i. none f (subst (In f) c.flights i);
-  tops = λ r. ap (λ (n : ℕ). highest 0 (take n w.log) r) c.logged;
-  names = λ r. ap (λ (n : ℕ). owner nobody (take n w.log) r) c.logged;
+  seats = λ h r. rw (c.seats h r);
+  flights = λ {f} i. none f (rw c.flights at i);
+  tops = λ r. rw c.logged;
+  names = λ r. rw c.logged;
 }
   where
     none : (f : Flight) → In f [] → ⊥
@@ -75,8 +75,8 @@ unfolding view
 logged_of w v e room is =
     let more : entries v ≡ entries w ++ (e ∷ []) = is ∙ take_more_set w.log w.room.logged e (leb-false (length w.log) w.room.logged room) in
     record {
-      names = λ q. ap (λ (es : List LogEntry). owner nobody es q) more ∙ owner_push nobody (entries w) e q;
-      tops = λ q. ap (λ (es : List LogEntry). highest 0 es q) more ∙ highest_push 0 (entries w) e q;
+      names = λ q. rw more (owner_push nobody (entries w) e q);
+      tops = λ q. rw more (highest_push 0 (entries w) e q);
     }
 
 -- disk, time and writes in flight are others

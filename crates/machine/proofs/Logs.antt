@@ -1,5 +1,5 @@
 -- Whom a log names, by its entries and by what they leave.
-use Rattle.std.proofs.Common.{◌≡◌, ℕ, ◌<◌, max, Bool, true, false, List, [], ◌∷◌, ◌++◌, refl, ap, inl, inr, arith}
+use Rattle.std.proofs.Common.{◌≡◌, ℕ, ◌<◌, max, Bool, true, false, List, [], ◌∷◌, ◌++◌, refl, inl, inr, arith}
 use Rattle.std.proofs.lemmas.Bool.{cases_Bool}
 use Rattle.format.specs.declared.events.LogEntry.{LogEntry}
 use Rattle.machine.specs.Soundness.{begins, ends, NoneAfter, Names}
@@ -43,7 +43,7 @@ cause o [] r h u e = before e tt
 cause o (x ∷ log) r h u e = go (cause (named_by o x r) log r h u e)
   where
     go : Cause (named_by o x r) log r h u → Cause o (x ∷ log) r h u
-    go (within front y back is begin host until n) = within (x ∷ front) y back (ap (λ (es : List LogEntry). x ∷ es) is) begin host until n
+    go (within front y back is begin host until n) = within (x ∷ front) y back (rw is) begin host until n
     go (before is n) = elim (cases_Bool (begins x r)) [
       | inl b ↦ let q : lasting x.host x.until.0 ≡ lasting h u = rw b at is in within [] x log refl b (cc) (cc) n
       | inr b ↦ let p = ended_back x r o h u (rw b at is) in before p.0 (b, p.1, n)

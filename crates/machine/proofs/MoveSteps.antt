@@ -8,7 +8,7 @@ use Rattle.machine.specs.declared.settings.Settings.{Settings}
 use Rattle.format.specs.declared.events.Event.TheVariants as events
 use Rattle.machine.specs.View.{Asked, Place, idle, claimed, held, View, In, claim_record}
 use Rattle.machine.specs.Moves.{vacant, Turn, Unlogged, Logged, note, Unsent, Sent, Open, Still, Unwritten, Move}
-use Rattle.machine.proofs.Core.{landed, Ours, Known, Core}
+use Rattle.machine.proofs.Core.{landed, Ours, Core}
 use Rattle.machine.proofs.Step.{Issued, Landed, Claims, kept, renewing, renewed, granted, Granting, Step}
 use Rattle.machine.proofs.StepKeeps.{step_keeps}
 use Rattle.machine.proofs.Quiet.{quiet_core}
@@ -85,7 +85,7 @@ module _ {s : Settings} {V W : View} (c : Core s V) where
       begun_step l c t n (λ q. refl) (λ g q. refl) (λ g k' u' p e late. absurd (hold_claim c e late v (landed b)))
       (λ here g q k' u' p d f y. granted m i (cc) (cc) (let o : claim_record r m k ≡ claim_record q m k' = cc in cc) early soon (cc) (let w = top in cc) (cc))
       (λ q. elim (cases_eq q r) [
-        | inl d ↦ inr (subst (Granting V W) (sym d) granting)
+        | inl d ↦ inr (rw d granting)
         | inr d ↦ inl (omega (arith, rw (ne_eqb r q (λ y. d (sym y))) at (l.tops q)))
       ])
     where
@@ -160,7 +160,7 @@ move_keeps s V W c (Move.opens a t n known old) = (
         tops = λ r. t.unlogged.tops r ∙ a.tops r;
         names = λ r. t.unlogged.names r ∙ a.names r;
       })
-      (λ r y e. subst (λ (z : LeaseRecord). Known W z.mark) (sym (known r y e)) (inl (omega arith))),
+      (λ r y e. rw (known r y e) (inl (omega arith))),
   λ q. omega arith,
 )
 move_keeps s V W c (Move.passes now ups gens stamps seats l blocks flights others) =

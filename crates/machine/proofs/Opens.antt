@@ -66,7 +66,7 @@ formatting_kept w r (ℕ.suc left) i shut sum enough all =
     (λ well. kept_from w (written_at w r new) _ refl (shut_view w d shut) (formatting_kept (written_at w r new) (r + 1) left n.inv shut (omega arith) (omega arith)
     (λ q l. elim (t.bytes_there q) [
       | inl a ↦ ap record_of a.0 ∙ all q (let ne = a.1 well in omega arith)
-      | inr a ↦ ap record_of a.2 ∙ reads_back (founding r) (founding_valid r (omega arith)) ∙ ap (λ (z : ℕ). Some (founding z)) (sym a.0)
+      | inr a ↦ rw (a.2, a.0) (reads_back (founding r) (founding_valid r (omega arith)))
     ])))
 
 -- open keeps a room

@@ -1,5 +1,5 @@
 -- One place of a list is set, and one seat of a room.
-use Rattle.std.proofs.Common.{◌≡◌, ℕ, ◌<◌, ◌⊎◌, List, [], length, get_or, set, sym, ap, ◌∙◌, inl, inr}
+use Rattle.std.proofs.Common.{◌≡◌, ℕ, ◌<◌, ◌⊎◌, List, [], length, get_or, set, ap, inl, inr}
 use Rattle.std.proofs.lemmas.List.{get_or-set_same, get_or-set_other}
 use Rattle.std.proofs.lemmas.Bool.{cases_eq}
 use Rattle.machine.specs.declared.types.Seat.{Seat}
@@ -9,14 +9,14 @@ use Rattle.machine.specs.Room.{Room, seat_at, with_seat}
 -- one place of a list is set
 pub at_set : {A : Type 0} (xs : List A) (i : ℕ) (a d : A) → i < length xs → (j : ℕ) → ((j ≡ i) × (get_or (set xs i a) j d ≡ a)) ⊎ ((j ≡ i → ⊥) × (get_or (set xs i a) j d ≡ get_or xs j d))
 at_set xs i a d l j = elim (cases_eq j i) [
-  | inl e ↦ inl (e, ap (λ (n : ℕ). get_or (set xs i a) n d) e ∙ get_or-set_same xs i a d l)
+  | inl e ↦ inl (e, rw e (get_or-set_same xs i a d l))
   | inr n ↦ inr (n, get_or-set_other xs i j a d n)
 ]
 
 -- what is set says the same as what stood there: so does every place
 pub set_same : {A B : Type 0} (f : A → B) (xs : List A) (i : ℕ) (a d : A) → i < length xs → f a ≡ f (get_or xs i d) → (j : ℕ) → f (get_or (set xs i a) j d) ≡ f (get_or xs j d)
 set_same f xs i a d l e j = elim (at_set xs i a d l j) [
-  | inl p ↦ ap f p.1 ∙ e ∙ ap (λ (n : ℕ). f (get_or xs n d)) (sym p.0)
+  | inl p ↦ rw (p.1, p.0) e
   | inr p ↦ ap f p.1
 ]
 

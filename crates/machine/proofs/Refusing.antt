@@ -1,5 +1,5 @@
 -- What a refused call leaves.
-use Rattle.std.proofs.Common.{◌≡◌, ℕ, ◌+◌, Bool, not, ltb, ◌⊎◌, List, [], ◌∷◌, length, Some, None, Ok, Err, Option, Result, sym, refl, ap, ◌∙◌, inl, inr}
+use Rattle.std.proofs.Common.{◌≡◌, ℕ, ◌+◌, Bool, not, ltb, ◌⊎◌, List, [], ◌∷◌, length, Some, None, Ok, Err, Option, Result, refl, ◌∙◌, inl, inr}
 use Rattle.std.proofs.lemmas.Bool.{cond_both}
 use Rattle.disk.specs.declared.fault.Fault.{Fault}
 use Rattle.disk.specs.declared.fault.Refusal.{Refusal}
@@ -101,7 +101,7 @@ formatted w r (ℕ.suc left) =
     t = touches d r (length new) new
 
     now : Formatted d (after_write d r new)
-    now q = elim (t.bytes_there q) [ inl a ↦ inl a.0 | inr a ↦ inr (a.2 ∙ ap (λ (n : ℕ). block_of (founding n)) (sym a.0)) ]
+    now q = elim (t.bytes_there q) [ inl a ↦ inl a.0 | inr a ↦ inr (rw (a.2, a.0)) ]
 
 -- the answer of a call told as another kind is a refusal where the call's own is
 back : {A : Type 0} (g : A → Answer) (a : Result A Fault) (f : Fault) → answer_by g a ≡ Err f → a ≡ Err f

@@ -1,5 +1,5 @@
 -- Every run of a room stays sound.
-use Rattle.std.proofs.Common.{◌≡◌, ℕ, ◌<◌, true, List, [], ◌∷◌, ◌++◌, length, get_or, replicate, pos, sym, refl, ap, ◌∙◌, subst, inl, inr, arith}
+use Rattle.std.proofs.Common.{◌≡◌, ℕ, ◌<◌, true, List, [], ◌∷◌, ◌++◌, length, replicate, pos, refl, ap, ◌∙◌, inl, inr, arith}
 use Rattle.std.proofs.lemmas.List.{length-replicate, get_or-replicate, get_or_past}
 use Rattle.std.proofs.lemmas.Int.{ints}
 use Rattle.std.proofs.lemmas.Bool.{cases_Bool, cases_lt}
@@ -72,7 +72,7 @@ founded_inv s d log = record {
       rows_long = length-replicate 16 (replicate 8 seats.Idle);
       row = λ h l. ap length (get_or-replicate 16 h (replicate 8 seats.Idle) [] l) ∙ length-replicate 8 seats.Idle;
       aged = λ h l. omega (arith, ap (λ (x : Host). x.generation) (get_or-replicate 16 h host no_host l));
-      whole = λ h r. subst (Whole (host_at (founded s d) h).offset) (sym (idle_at h r)) tt;
+      whole = λ h r. rw (idle_at h r) tt;
       spare = λ h r. inl (idle_at h r);
     };
     flying = record { apart = tt; valid = λ f i. elim i [ ] };
@@ -90,8 +90,8 @@ founded_inv s d log = record {
 
     idle_at : (h r : ℕ) → seat_at (founded s d) h r ≡ seats.Idle
     idle_at h r = elim (cases_lt h 16) [
-      | inl l ↦ ap (λ (ys : List Seat). get_or ys r seats.Idle) (get_or-replicate 16 h (replicate 8 seats.Idle) [] l) ∙ idle_row r
-      | inr l ↦ ap (λ (ys : List Seat). get_or ys r seats.Idle) (get_or_past (replicate 16 (replicate 8 seats.Idle)) h [] l)
+      | inl l ↦ rw (get_or-replicate 16 h (replicate 8 seats.Idle) [] l) (idle_row r)
+      | inr l ↦ rw (get_or_past (replicate 16 (replicate 8 seats.Idle)) h [] l)
     ]
 
     shut : Closed w.room.seats w.room.flights w.room.logged
@@ -160,7 +160,7 @@ module _ (w : World) (i : Inv w) where
   -- what a grant says
   grant_of_call : (c : Call) (r t : ℕ) → Grants w c r t → Grant (view w) (view (perform c w).world) r t
   grant_of_call c r t (h, area, until, is, e) =
-      subst (λ (x : Call). Grant (view w) (view (perform x w).world) r t) (sym is) ((check_answers w h r area i).said (Granted t until) e)
+      rw is ((check_answers w h r area i).said (Granted t until) e)
 
   -- nobody holds what is being granted
   vacant_before : VacantBefore w
@@ -175,7 +175,7 @@ rising w i before between first later r s t a b =
     let g = grant_of_call v n.inv first r s a in
     let m = perform_kept v n.inv first in
     let z = run_kept x m.inv between in
-    let last : Grants (after x between) later r t = subst (λ (y : World). Grants y later r t) (after_append w before (first ∷ between)) b in
+    let last : Grants (after x between) later r t = rw (after_append w before (first ∷ between)) at b in
     let e = grant_of_call (after x between) z.inv later r t last in
     omega (arith, g.noted, z.tops r, e.above)
 

@@ -15,7 +15,6 @@ use Rattle.machine.specs.Seats.{is_vacant, hold, Hold, claim, Claim, watched, Wa
 use Rattle.machine.specs.View.{watching, Place, claimed, held, placed, asked, ticked, view}
 use Rattle.machine.specs.Moves.{vacant, Turn, Unlogged, Logged, Unsent, Sent, Move}
 use Rattle.machine.proofs.Flights.{in_push, apart_push}
-use Rattle.machine.proofs.Records.{Valid}
 use Rattle.machine.proofs.Places.{at_set, set_same, seat_set}
 use Rattle.machine.proofs.StepKeeps.{new_known}
 use Rattle.machine.proofs.Times.{Ticks}
@@ -80,7 +79,7 @@ module _ (w : World) (h r : ℕ) (kind : Kind) (term : ℕ) where
     apart = apart_push _ w.room.flights i.shape.flying.apart (λ g n same. new_known (view w) (refl, omega arith) (i.core.known_flight n) (sym same));
     valid = λ f n. elim (in_push f _ w.room.flights n) [
       | inl o ↦ i.shape.flying.valid f o
-      | inr o ↦ subst (λ (g : Flight). Valid g.body × (g.body.resource < w.room.settings.resources)) (sym o) (
+      | inr o ↦ rw o (
         record {
           resource = omega arith;
           owner = few;

@@ -27,7 +27,7 @@ module _ {s : Settings} {V W : View} (c : Core s V) (t : Step s V W) where
 
   -- what can be read after the step could be before it, or was just issued
   alive_back : (r : ℕ) (x : LeaseRecord) → Alive W r x → Alive V r x ⊎ (Issued s V W x × (x.resource ≡ r))
-  alive_back r x (flying f i e q) = elim (t.course.flights i).0 [ inl j ↦ inl (flying f j e q) | inr j ↦ inr (subst (Issued s V W) e j.1, q) ]
+  alive_back r x (flying f i e q) = elim (t.course.flights i).0 [ inl j ↦ inl (flying f j e q) | inr j ↦ inr (rw e at j.1, q) ]
   alive_back r x (landed e) = elim (t.course.blocks e) [ inl j ↦ inl (landed j) | inr j ↦ inl (flying j.flight j.was j.is j.there) ]
 
   -- so the mark of a record that was not just issued was known
@@ -45,8 +45,8 @@ module _ {s : Settings} {V W : View} (c : Core s V) (t : Step s V W) where
   -- a record that has just landed is watched by nobody
   landed_watch : {r g q u : ℕ} {x y : LeaseRecord} → Landed V W r x → W.seat g q ≡ watching y u → y.mark ≡ x.mark → ⊥
   landed_watch l e same = elim (t.watches e) [
-    | inl j ↦ c.fresh_watch l.was j (ap (λ (z : LeaseRecord). z.mark) l.is ∙ sym same)
-    | inr j ↦ c.fresh_block l.was j.0 (ap (λ (z : LeaseRecord). z.mark) l.is ∙ sym same)
+    | inl j ↦ c.fresh_watch l.was j (rw l.is (sym same))
+    | inr j ↦ c.fresh_block l.was j.0 (rw l.is (sym same))
   ]
 
   -- what was a holder's own stays so
@@ -85,10 +85,10 @@ module _ {s : Settings} {V W : View} (c : Core s V) (t : Step s V W) where
       | inl b' ↦ elim (t.holds e) [
         | kept old _ ↦ old_watch old (omega arith) b' w same
         | renewing a q _ old _ _ _ ↦ old_watch old (omega arith) b' w same
-        | renewed a z x' _ old soon is b'' mark _ ↦ let m : y.mark ≡ a.mark = (let q : x ≡ x' = cc in same ∙ ap (λ (z : LeaseRecord). z.mark) q ∙ mark) in
+        | renewed a z x' _ old soon is b'' mark _ ↦ let m : y.mark ≡ a.mark = (let q : x ≡ x' = cc in (rw q at same) ∙ mark) in
             elim (t.watches w) [ inl w' ↦ omega (arith, c.asked_watch old w' m) | inr w' ↦ omega (arith, w'.1, c.asked_now old) ]
         | granted m i _ old stands early soon is _ _ ↦ let q : x ≡ claim_record r m k = cc in
-            elim (t.watches w) [ inl w' ↦ omega (arith, c.claim_watch old w' (same ∙ ap (λ (z : LeaseRecord). z.mark) q)) | inr w' ↦ omega arith ]
+            elim (t.watches w) [ inl w' ↦ omega (arith, c.claim_watch old w' (rw q at same)) | inr w' ↦ omega arith ]
       ]
     ];
     hold_top = λ e late. elim (t.holds e) [
@@ -117,7 +117,7 @@ module _ {s : Settings} {V W : View} (c : Core s V) (t : Step s V W) where
     claim_alone = λ {m = m} e soon b w there. elim (t.claims e) [
       | inr j ↦ absurd (new_known V {m = m} j.new (known_block_back b) refl)
       | inl j ↦ elim (t.course.blocks b) [
-        | inr l ↦ omega (arith, flight_now w, (c.flight_time l.was).1, c.claim_flight j l.was (ap (λ (z : LeaseRecord). z.mark) l.is))
+        | inr l ↦ omega (arith, flight_now w, (c.flight_time l.was).1, c.claim_flight j l.was (rw l.is))
         | inl b' ↦ elim (t.course.flights w).0 [
           | inl w' ↦ c.claim_alone j (omega arith) b' w' there
           | inr n ↦ absurd (n.1.alone there j (omega arith) b')
@@ -140,7 +140,7 @@ module _ {s : Settings} {V W : View} (c : Core s V) (t : Step s V W) where
     ];
     asked_watch = λ {a = a} e w same. elim (t.holds e) [
       | kept old _ ↦ elim (t.watches w) [ inl w' ↦ c.asked_watch old w' same | inr w' ↦ omega (arith, w'.1, c.asked_now old) ]
-      | renewing b q is old new now _ ↦ let eq : a ≡ b = cc in absurd (new_known V new (known_watch_back w) (sym (same ∙ ap (λ (z : Asked). z.mark) eq)))
+      | renewing b q is old new now _ ↦ let eq : a ≡ b = cc in absurd (new_known V new (known_watch_back w) (sym (rw eq at same)))
       | renewed b z x is old soon _ _ _ _ ↦ cc
       | granted m i is old stands early soon _ _ _ ↦ cc
     ];

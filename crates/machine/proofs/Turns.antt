@@ -1,5 +1,5 @@
 -- What a host's calls keep: try, renew, release, watch.
-use Rattle.std.proofs.Common.{◌≡◌, ℕ, ◌+◌, true, leb, List, ◌∷◌, Some, sym, refl, ap, ◌∙◌, arith}
+use Rattle.std.proofs.Common.{◌≡◌, ℕ, ◌+◌, true, leb, List, ◌∷◌, Some, refl, ◌∙◌, arith}
 use Rattle.std.proofs.lemmas.Int.{ints}
 use Rattle.std.proofs.lemmas.Bool.{cond_both, not-false, or_parts, leb-false}
 use Rattle.format.specs.declared.lease.Kind.TheVariants.{Free, Owned}
@@ -15,7 +15,7 @@ use Rattle.machine.specs.Steps.{next_mark, issue_tests, plain_entry, read_at}
 use Rattle.machine.specs.Seats.{is_vacant, hold, claim, watched, same_record}
 use Rattle.machine.specs.Holding.{expire_tests, leave_tests, late, renew_call, release_call, watch_call}
 use Rattle.machine.specs.Claiming.{try_tests, still_tests, claim_tests, watching, claiming, tried, try_call}
-use Rattle.machine.specs.View.{watching as watching_place, claimed, held, asked, ticked, view}
+use Rattle.machine.specs.View.{asked, ticked, view}
 use Rattle.machine.specs.Moves.{Move, Open, free, still}
 use Rattle.machine.proofs.Tests.{unless_elim, by_kind, by_option}
 use Rattle.machine.proofs.Same.{record_same}
@@ -30,7 +30,7 @@ unfolding view
 watching_kept w h r x i t v b =
     let o = (host_at w.room h).offset in
     seat_turn w h r (seats.Watching x (record { 0 = reading w.room h })) i t
-    (omega (arith, ints)) (ap (watching_place x) (now_ticked o w.room.tick))
+    (omega (arith, ints)) (rw (now_ticked o w.room.tick))
     (λ turn l u. Move.notes h r x turn l u (vacant_placed o (seat_at w.room h r) v) b)
 
 -- a host claims over the record that it read
@@ -42,7 +42,7 @@ claiming_kept w h r x i t v b why =
     unless_elim (λ (y : Outcome Tried). Kept w y.world) w _ (claim_tests m h x) (λ _. kept_same w i)
     (λ f. let p = or_parts (leb 9999 (host_at m h).stamp) (leb 999999 x.term) f.1.0 in
     sent_turn w h r (seats.Claimed (next_mark m h) (x.term + 1) (record { 0 = reading m h })) i t
-    (omega (arith, ints), omega arith, omega (arith, leb-false 999999 x.term p.1)) (ap (claimed (next_mark m h) (x.term + 1)) (now_ticked o m.tick))
+    (omega (arith, ints), omega arith, omega (arith, leb-false 999999 x.term p.1)) (rw (now_ticked o m.tick))
     Owned (x.term + 1) p.0 (omega arith) (omega (arith, leb-false 999999 x.term p.1))
     (λ turn l u. Move.claims h r (next_mark m h) x turn l u (vacant_placed o (seat_at m h r) v) b why))
 
@@ -58,7 +58,7 @@ tried_kept w h r x i t v b =
     (λ y e. let p = watched_is o (seat_at m h r) y e (i.shape.seated.whole h r) in
     cond_both (same_record x y.seen) _ (watching w h r x) P
     (λ same. unless_elim P w (claiming w h r x) (still_tests m h y.since) (λ _. kept_same w i)
-    (λ f. claiming_kept w h r x i t v b (still (ticked o y.since) (p.0 ∙ ap (λ (z : LeaseRecord). watching_place z (ticked o y.since)) (sym (record_same x y.seen same)))
+    (λ f. claiming_kept w h r x i t v b (still (ticked o y.since) (p.0 ∙ rw (record_same x y.seen same))
     (omega (arith, ints)))))
     (λ _. watching_kept w h r x i t v b)))
 
@@ -85,7 +85,7 @@ renew_kept w h r i =
     (λ x e. let p = hold_is o (seat_at m h r) x e (i.shape.seated.whole h r) in
     unless_elim P w _ (late m h x ∷ issue_tests m h) (λ _. kept_same w i)
     (λ g. sent_turn w h r (seats.Held x.term (record { 0 = x.until }) (Some (record { mark = next_mark m h; issued = record { 0 = reading m h } }))) i t
-    (p.1, p.2, p.3, omega (arith, ints)) (ap (λ (n : ℕ). held x.term (ticked o x.until) (Some (record { mark = next_mark m h; at = n }))) (now_ticked o m.tick))
+    (p.1, p.2, p.3, omega (arith, ints)) (rw (now_ticked o m.tick))
     Owned x.term g.1.1.0 p.2 p.3
     (λ turn l u. Move.renews h r (next_mark m h) x.term (ticked o x.until) (asked o x.pending) turn l u p.0 (omega (arith, ints))))))
 
