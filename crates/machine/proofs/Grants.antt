@@ -1,5 +1,5 @@
 -- What check and confirm keep, and what a grant says.
-use Rattle.std.proofs.Common.{◌≡◌, ℕ, ◌+◌, ◌<◌, ◌≤◌, false, eqb, leb, List, [], ◌∷◌, length, set, pos, ◌+ℤ◌, Some, None, Ok, Err, Option, refl, ap, ◌∙◌, subst, arith}
+use Rattle.std.proofs.Common.{◌≡◌, ℕ, ◌+◌, ◌*◌, ◌<◌, ◌≤◌, false, eqb, leb, List, [], ◌∷◌, length, set, pos, ◌+ℤ◌, Some, None, Ok, Err, Option, refl, ap, ◌∙◌, subst, arith}
 use lib.Signed.{lt_z, le_z}
 use Rattle.std.proofs.lemmas.Int.{ints}
 use Rattle.std.proofs.lemmas.Bool.{cond_both, cond-true, eq-eqb, and_from, both_ways}
@@ -85,6 +85,8 @@ checked_answers w h r x y i t c room early soon b =
     let told = log_ticked o (x.issued +ℤ pos L) (omega (arith, ints)) ∙ until in
     let x' = seats.Held x.term (record { 0 = x.issued +ℤ pos L }) None in
     let v : World = turned w h r x' m.hosts m.flights (m.logged + 1) (set w.log m.logged e) in
+    let waited : n + (2 * m.settings.delay + 1) ≤ m.tick = omega (arith, ints) in
+    let lasts : m.tick < n + L = omega (arith, ints) in
     cond_both (same_record y (claim_record r x.mark x.term)) _ (record { answer = Ok checks.Stolen; world = stolen w h r }) (Answers (Granting r) w)
     (λ same.
     let stands_there : (view w).block r ≡ Some (claim_record r x.mark x.term) = b ∙ ap {B = Option LeaseRecord} Some (record_same y (claim_record r x.mark x.term) same) in
@@ -95,11 +97,10 @@ checked_answers w h r x y i t c room early soon b =
     } in
     answered (Granting r) w v _
     (logged_turn w h r x' i t (omega (arith, ints), p.2, p.3, tt) (rw until) e room
-    (λ turn l u. Move.grants h r x.mark x.term n turn (subst (Logged (view w) (view v)) (ap (note m.tick events.Granted h r x.term) told) l) u p.0 stands_there
-    (omega (arith, ints)) (omega (arith, ints))))
+    (λ turn l u. Move.grants h r x.mark x.term n turn (subst (Logged (view w) (view v)) (ap (note m.tick events.Granted h r x.term) told) l) u p.0 stands_there waited lasts))
     grant)
     (λ _. answered (Granting r) w (stolen w h r) checks.Stolen
-    (seat_turn w h r seats.Idle i t tt refl (λ turn l u. Move.leaves h r x.mark x.term n turn l u p.0 (omega (arith, ints))))
+    (seat_turn w h r seats.Idle i t tt refl (λ turn l u. Move.leaves h r x.mark x.term n turn l u p.0 waited))
     tt)
 
 -- check keeps a room, and grants only what is vacant, under a term above all others

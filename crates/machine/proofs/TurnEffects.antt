@@ -94,7 +94,7 @@ module _ {V W : View} {h r : ℕ} {x : Place} (t : Turn V W h r x) where
     | inr n ↦ inr (n.0, sym n.1 ∙ e)
   ]
 
-  -- a host that is down has no seat
+  -- time, hosts, writes in flight and blocks after it: a host that is down has no seat
   pub turn_course : {s : Settings} → Core s V → Sending s V W → Course s V W
   turn_course c n = calm_course c n t.tick t.gens t.blocks (λ g q e. elim (t.seats g q) [
     | inl i ↦ let a = t.awake in let b = t.ups g in cc
@@ -132,10 +132,10 @@ over_step {V = V} {e = e} l course none ungranted seats = record {
   names = λ {r = q} {h = g} {u} y. let b = ended_back e q (V.named q) g u (sym (past l q (none q)) ∙ y) in inl (b.0, λ o. elim (seats g q) [ inl d ↦ cc | inr d ↦ (o.0, o.1, d.0 ∙ o.2) ]);
 }
 
--- a turn that ends a lease
+-- so for a turn that empties a seat, and an entry that says so
 pub over_seats : {V W : View} {h r : ℕ} → Turn V W h r idle → (g q : ℕ) → ((W.seat g q ≡ idle) × ((eqb h g && eqb r q) ≡ true)) ⊎ ((W.seat g q ≡ V.seat g q) × ((eqb h g && eqb r q) ≡ false))
 over_seats {h = h} {r = r} t g q = elim (t.seats g q) [
-  | inl n ↦ inl (cc, both (n.0) (n.1))
+  | inl n ↦ inl (cc, both n.0 n.1)
   | inr n ↦ inr (n.1, other n.0)
 ]
   where

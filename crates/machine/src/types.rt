@@ -32,6 +32,7 @@ pub enum Seat {
 }
 
 // A host: how far its clock is off, whether it is up, how often it has started, and the last stamp that it has used.
+// No `Option` of what is up: generation and stamp are kept while it is down.
 #[derive(Clone, Copy, PartialEq, Eq, Debug)]
 pub struct Host {
     pub offset: i32,
