@@ -1,65 +1,62 @@
--- What an access of a block that is there answers and leaves.
-use Rattle.std.proofs.Common.{◌≡◌, ℕ, ◌<◌, true, false, cond, ◌⊎◌, List, length, Ok, Err, sym, refl, ap, ◌∙◌, inl, inr, length-set}
-use Rattle.std.proofs.lemmas.Bool.{cond-false, cond_both, cond-true}
-use Rattle.disk.specs.Model.{Block, DiskModel, access_answer, after_access, after_read, after_write, area_after_read, block, fails, failure, after_success, with_block, after_failure, no_block}
-use Rattle.disk.proofs.Accesses.{Reached, reached}
-use Rattle.machine.proofs.Places.{at_set}
+-- What an access leaves of a disk.
+use Rattle.std.proofs.Common.{◌≡◌, ℕ, ◌<◌, Bool, true, false, cond, eqb, ltb, ◌⊎◌, List, length, Ok, Err, Result, refl, inl, inr, length-set}
+use Rattle.std.proofs.lemmas.Bool.{and_parts, ltb-true}
+use Rattle.disk.specs.declared.fault.Fault.{Fault}
+use Rattle.disk.specs.Model.{Block, DiskModel, no_block, block, block_length, count, fails, failure, inadmissible, after_failure, after_success, with_block, reaches, access_answer, after_access, after_read}
+use Rattle.machine.specs.Room.{World}
+use Rattle.machine.specs.Outcomes.{Outcome, then}
+use Rattle.machine.specs.Refusing.{SameBlocks}
+use Rattle.machine.specs.Steps.{written_at, writing_block}
+use Rattle.machine.proofs.Places.{at_set, set_same}
 
-abbrev pub accessed : Block → List ℕ → Block
-accessed b bytes = cond (fails b) (after_failure b) (after_success b bytes)
+-- an access of block r of the disk d with this answer leaves the disk e: a block keeps its bytes, or it is block r, the
+-- access went well, and these are its bytes
+pub record Touched (d : DiskModel) (r : ℕ) (bytes : List ℕ) (answer : Result (Unit {0}) Fault) (e : DiskModel) : Type 0 where
+  pub same : SameBlocks d e
+  pub bytes_there : (q : ℕ) → (((block e q).bytes ≡ (block d q).bytes) × (answer ≡ Ok tt → q ≡ r → ⊥)) ⊎ ((q ≡ r) × (answer ≡ Ok tt) × ((block e q).bytes ≡ bytes))
 
--- the disk after an access of block r that leaves these bytes if it goes well
-abbrev pub touched : DiskModel → ℕ → List ℕ → DiskModel
-touched d r bytes = with_block d r (accessed (block d r) bytes)
+module _ (d : DiskModel) (r : ℕ) (bytes : List ℕ) where
+  -- block r is another, of the same home
+  replaced : (b : Block) → r < count d → b.home ≡ (block d r).home → SameBlocks d (with_block d r b)
+  replaced b l h = record { height = refl; blocks = length-set d.blocks r b; homes = set_same (λ x. x.home) d.blocks r b no_block l h }
 
-module _ (d : DiskModel) (r : ℕ) (l : r < length d.blocks) where
-  access : (bytes : List ℕ) → Reached d r 512 bytes (block d r)
-  access bytes = reached d r 512 bytes (block d r) (record { whole = refl; within = l }) refl
+  -- by the two tests that an access rests on
+  touches_by : (x y : Fault) (t u : Bool) → (t ≡ true → r < count d)
+      → Touched d r bytes (cond t (cond u (Err x) (Ok tt)) (Err y)) (cond t (with_block d r (cond u (after_failure (block d r)) (after_success (block d r) bytes))) d)
+  touches_by x y false u l = record { same = record { height = refl; blocks = refl; homes = λ q. refl }; bytes_there = λ q. inl (refl, λ o. cc) }
+  touches_by x y true true l = record {
+    same = replaced (after_failure (block d r)) (l refl) refl;
+    bytes_there = λ q. inl (set_same (λ b. b.bytes) d.blocks r (after_failure (block d r)) no_block (l refl) refl q, λ o. cc);
+  }
+  touches_by x y true false l = record {
+    same = replaced (after_success (block d r) bytes) (l refl) refl;
+    bytes_there = λ q. elim (at_set d.blocks r (after_success (block d r) bytes) no_block (l refl) q) [
+      | inl a ↦ inr (a.0, refl, rw a.1)
+      | inr a ↦ inl (rw a.1, λ _. a.0)
+    ];
+  }
 
-  pub answer_is : access_answer d r 512 ≡ cond (fails (block d r)) (Err (failure (block d r))) (Ok tt)
-  answer_is = (access (block d r).bytes).answer_is
+-- so of every access
+pub touches : (d : DiskModel) (r size : ℕ) (bytes : List ℕ) → Touched d r bytes (access_answer d r size) (after_access d r size bytes)
+unfolding access_answer after_access
+touches d r size bytes =
+    touches_by d r bytes (failure (block d r)) (inadmissible d.height r size) (reaches d r size) (fails (block d r))
+    (λ e. ltb-true r (count d) (and_parts (eqb size block_length) (ltb r (count d)) e).1)
 
-  pub read_is : after_read d r 512 ≡ touched d r (block d r).bytes
-  read_is = (access (block d r).bytes).disk_is
+-- a read leaves the bytes of every block
+pub read_bytes : (d : DiskModel) (r size q : ℕ) → (block (after_read d r size) q).bytes ≡ (block d q).bytes
+read_bytes d r size q = elim ((touches d r size (block d r).bytes).bytes_there q) [ inl e ↦ e.0 | inr e ↦ rw (e.2, e.0) ]
 
-  pub area_is : fails (block d r) ≡ false → area_after_read d r 512 ≡ (block d r).bytes
-  area_is good = (access (block d r).bytes).area_is ∙ cond-false (fails (block d r)) _ (block d r).bytes good
+-- and so does an access that fails
+pub failed_bytes : (d : DiskModel) (r size : ℕ) (bytes : List ℕ) (f : Fault) → access_answer d r size ≡ Err f → (q : ℕ) → (block (after_access d r size bytes) q).bytes ≡ (block d q).bytes
+failed_bytes d r size bytes f e q = elim ((touches d r size bytes).bytes_there q) [ inl a ↦ a.0 | inr a ↦ cc ]
 
-  module _ (new : List ℕ) (whole : length new ≡ 512) where
-    pub answer_write_is : access_answer d r (length new) ≡ cond (fails (block d r)) (Err (failure (block d r))) (Ok tt)
-    answer_write_is = ap (λ (n : ℕ). access_answer d r n) whole ∙ answer_is
-
-    pub write_is : after_write d r new ≡ touched d r new
-    write_is = ap (λ (n : ℕ). after_access d r n new) whole ∙ (access new).disk_is
-
-    pub write_long : length (after_write d r new).blocks ≡ length d.blocks
-    write_long = ap (λ (m : DiskModel). length m.blocks) write_is ∙ length-set d.blocks r (accessed (block d r) new)
-
-  pub read_long : length (after_read d r 512).blocks ≡ length d.blocks
-  read_long = ap (λ (m : DiskModel). length m.blocks) read_is ∙ length-set d.blocks r (accessed (block d r) (block d r).bytes)
-
--- what a block holds after an access
-touched_bytes : (d : DiskModel) (r q : ℕ) → r < length d.blocks → (block (touched d r (block d r).bytes) q).bytes ≡ (block d q).bytes
-touched_bytes d r q l = elim (at_set d.blocks r (accessed (block d r) (block d r).bytes) no_block l q) [
-  | inl e ↦ ap (λ (b : Block). b.bytes) e.1 ∙ cond_both (fails (block d r)) _ _ (λ (b : Block). b.bytes ≡ (block d r).bytes) (λ _. refl) (λ _. refl) ∙ ap (λ (n : ℕ). (block d n).bytes) (sym e.0)
-  | inr e ↦ ap (λ (b : Block). b.bytes) e.1
-]
-
-pub read_bytes : (d : DiskModel) (r q : ℕ) → r < length d.blocks → (block (after_read d r 512) q).bytes ≡ (block d q).bytes
-read_bytes d r q l = ap (λ (m : DiskModel). (block m q).bytes) (read_is d r l) ∙ touched_bytes d r q l
-
--- a write that failed leaves every block
-pub failed_bytes : (d : DiskModel) (r q : ℕ) (new : List ℕ) → r < length d.blocks → length new ≡ 512 → fails (block d r) ≡ true → (block (after_write d r new) q).bytes ≡ (block d q).bytes
-failed_bytes d r q new l whole f = ap (λ (m : DiskModel). (block m q).bytes) (write_is d r l new whole) ∙ elim (at_set d.blocks r (accessed (block d r) new) no_block l q) [
-  | inl e ↦ ap (λ (b : Block). b.bytes) e.1 ∙ ap (λ (b : Block). b.bytes) (cond-true (fails (block d r)) _ _ f) ∙ ap (λ (n : ℕ). (block d n).bytes) (sym e.0)
-  | inr e ↦ ap (λ (b : Block). b.bytes) e.1
-]
-
--- a write that went well leaves every other block
-pub wrote_bytes : (d : DiskModel) (r q : ℕ) (new : List ℕ) → r < length d.blocks → length new ≡ 512 → fails (block d r) ≡ false → ((q ≡ r) × ((block (after_write d r new) q).bytes ≡ new)) ⊎ ((q ≡ r → ⊥) × ((block (after_write d r new) q).bytes ≡ (block d q).bytes))
-wrote_bytes d r q new l whole f =
-    let same = ap (λ (m : DiskModel). (block m q).bytes) (write_is d r l new whole) in
-    elim (at_set d.blocks r (accessed (block d r) new) no_block l q) [
-      | inl e ↦ inl (e.0, same ∙ (ap (λ (b : Block). b.bytes) e.1 ∙ ap (λ (b : Block). b.bytes) (cond-false (fails (block d r)) _ _ f)))
-      | inr e ↦ inr (e.0, same ∙ ap (λ (b : Block). b.bytes) e.1)
-    ]
+-- block r is written: the disk fails, or what follows
+pub writing_elim : {A : Type 0} (P : Outcome A → Type 0) (w : World) (r : ℕ) (bytes : List ℕ) (next : World → Outcome A)
+    → ((f : Fault) → access_answer w.room.disk r (length bytes) ≡ Err f → P (record { answer = Err f; world = written_at w r bytes }))
+    → (access_answer w.room.disk r (length bytes) ≡ Ok tt → P (next (written_at w r bytes))) → P (writing_block w r bytes next)
+writing_elim P w r bytes next failing well = go (access_answer w.room.disk r (length bytes)) refl
+  where
+    go : (a : Result (Unit {0}) Fault) → access_answer w.room.disk r (length bytes) ≡ a → P (then a (written_at w r bytes) (next (written_at w r bytes)))
+    go (Err f) is = failing f is
+    go (Ok u) is = well is

@@ -7,8 +7,6 @@ use Rattle.machine.specs.Seats.{same_mark}
 use Rattle.machine.specs.Writes.{find, removed}
 use Rattle.machine.specs.Setup.{younger}
 use Rattle.machine.specs.View.{In, here, there}
-use Rattle.machine.proofs.Clash.{clash}
-use Rattle.machine.specs.Holding.{late}
 use Rattle.machine.proofs.Same.{mark_same, mark_self}
 
 -- no two writes in flight have one mark
@@ -26,55 +24,43 @@ in_push g f (e ∷ fs) (there i) = elim (in_push g f fs i) [ inl j ↦ inl (ther
 -- one more write, of another mark
 pub apart_push : (f : Flight) (fs : List Flight) → Apart fs → ((g : Flight) → In g fs → g.body.mark ≡ f.body.mark → ⊥) → Apart (fs ++ (f ∷ []))
 apart_push f [] a n = (λ g i. elim i [ ], tt)
-apart_push f (e ∷ fs) a n = (λ g i same. elim (in_push g f fs i) [ inl j ↦ a.0 g j same | inr j ↦ n e here (sym (ap (λ (z : Flight). z.body.mark) (sym j) ∙ same)) ], apart_push f fs a.1 (λ g i. n g (there i)))
-
--- a list that lost writes behind its first
-in_cons : (g f : Flight) (ys fs : List Flight) → (In g ys → In g fs) → In g (f ∷ ys) → In g (f ∷ fs)
-in_cons g f ys fs n here = here
-in_cons g f ys fs n (there i) = there (n i)
+apart_push f (e ∷ fs) a n = (λ g i same. elim (in_push g f fs i) [ inl j ↦ a.0 g j same | inr j ↦ n e here (sym (rw j at same)) ], apart_push f fs a.1 (λ g i. n g (there i)))
 
 -- the write that a mark names, and what is left without it
 module _ (m : Mark) where
   pub find_in : (f : Flight) (fs : List Flight) → find m fs ≡ Some f → In f fs × (f.body.mark ≡ m)
-  find_in f [] e = clash (cc)
+  find_in f [] e = cc
   find_in f (g ∷ fs) e = go (find_in f fs) (same_mark g.body.mark m) refl
     where
       go : (find m fs ≡ Some f → In f fs × (f.body.mark ≡ m)) → (b : Bool) → same_mark g.body.mark m ≡ b → In f (g ∷ fs) × (f.body.mark ≡ m)
       go n true i = let q : g ≡ f = cc in (subst (λ (z : Flight). In z (g ∷ fs)) q here, ap (λ (z : Flight). z.body.mark) (sym q) ∙ mark_same g.body.mark m i)
       go n false i = let q : find m fs ≡ Some f = cc in (there (n q).0, (n q).1)
 
-  -- what is left was there
-  pub removed_in : (g : Flight) (fs : List Flight) → In g (removed m fs) → In g fs
-  removed_in g [] = λ i. i
-  removed_in g (f ∷ fs) =
-      let n = removed_in g fs in
-      cond_both (same_mark f.body.mark m) fs (f ∷ removed m fs) (λ (ys : List Flight). In g ys → In g (f ∷ fs)) (λ _ i. there i) (λ _ i. in_cons g f (removed m fs) fs n i)
+  -- what is left was there, and has another mark
+  pub removed_in : (g : Flight) (fs : List Flight) → Apart fs → In g (removed m fs) → In g fs × (g.body.mark ≡ m → ⊥)
+  removed_in g [] a = λ i. elim i [ ]
+  removed_in g (f ∷ fs) a =
+      let n = removed_in g fs a.1 in
+      cond_both (same_mark f.body.mark m) fs (f ∷ removed m fs) (λ (ys : List Flight). In g ys → In g (f ∷ fs) × (g.body.mark ≡ m → ⊥))
+      (λ e i. (there i, λ same. a.0 g i (same ∙ sym (mark_same f.body.mark m e))))
+      (λ e i. other f (removed m fs) e n i)
+    where
+      other : (f : Flight) (ys : List Flight) → same_mark f.body.mark m ≡ false → (In g ys → In g fs × (g.body.mark ≡ m → ⊥)) → In g (f ∷ ys) → In g (f ∷ fs) × (g.body.mark ≡ m → ⊥)
+      other f ys e n here = (here, λ same. let t = mark_self f.body.mark m same in cc)
+      other f ys e n (there i) = (there (n i).0, (n i).1)
 
   -- what is left has marks apart
   pub removed_apart : (fs : List Flight) → Apart fs → Apart (removed m fs)
   removed_apart [] a = a
   removed_apart (f ∷ fs) a =
       let n = removed_apart fs a.1 in
-      cond_both (same_mark f.body.mark m) fs (f ∷ removed m fs) Apart (λ _. a.1) (λ _. (λ g i. a.0 g (removed_in g fs i), n))
+      cond_both (same_mark f.body.mark m) fs (f ∷ removed m fs) Apart (λ _. a.1) (λ _. (λ g i. a.0 g (removed_in g fs a.1 i).0, n))
 
   -- a write of another mark stays
   pub removed_stays : (g : Flight) (fs : List Flight) → In g fs → (g.body.mark ≡ m → ⊥) → In g (removed m fs)
   removed_stays g [] i n = elim i [ ]
   removed_stays g (f ∷ fs) here n = cond_both (same_mark f.body.mark m) fs (f ∷ removed m fs) (In f) (λ e. absurd (n (mark_same f.body.mark m e))) (λ _. here)
   removed_stays g (f ∷ fs) (there i) n = cond_both (same_mark f.body.mark m) fs (f ∷ removed m fs) (In g) (λ _. i) (λ _. there (removed_stays g fs i n))
-
-  -- the named write is gone
-  pub removed_gone : (g : Flight) (fs : List Flight) → Apart fs → In g (removed m fs) → g.body.mark ≡ m → ⊥
-  removed_gone g [] a = λ i. elim i [ ]
-  removed_gone g (f ∷ fs) a =
-      let n = removed_gone g fs a.1 in
-      cond_both (same_mark f.body.mark m) fs (f ∷ removed m fs) (λ (ys : List Flight). In g ys → g.body.mark ≡ m → ⊥)
-      (λ e i same. a.0 g i (same ∙ sym (mark_same f.body.mark m e)))
-      (λ e i. other f (removed m fs) e n i)
-    where
-      other : (f : Flight) (ys : List Flight) → same_mark f.body.mark m ≡ false → (In g ys → g.body.mark ≡ m → ⊥) → In g (f ∷ ys) → g.body.mark ≡ m → ⊥
-      other f ys e n here same = let t = mark_self f.body.mark m same in clash (cc)
-      other f ys e n (there i) same = n i same
 
 -- the writes that have not run out of time
 module _ (d t : ℕ) where

@@ -1,4 +1,3 @@
-pub mod Bounds
 pub mod Clash
 pub mod Places
 pub mod Same

@@ -1,16 +1,14 @@
 -- Whom a log names, by its entries and by what they leave.
-use Rattle.std.proofs.Common.{◌≡◌, ℕ, ◌<◌, max, true, false, List, [], ◌∷◌, ◌++◌, sym, refl, ap, ◌∙◌, inl, inr, arith}
-use Rattle.std.proofs.lemmas.Bool.{cond-true, cond-false, cases_Bool}
+use Rattle.std.proofs.Common.{◌≡◌, ℕ, ◌<◌, max, Bool, true, false, List, [], ◌∷◌, ◌++◌, refl, inl, inr, arith}
+use Rattle.std.proofs.lemmas.Bool.{cases_Bool}
 use Rattle.format.specs.declared.events.LogEntry.{LogEntry}
 use Rattle.machine.specs.Soundness.{begins, ends, NoneAfter, Names}
 use Rattle.machine.specs.View.{Owner, nobody, lasting, ended, named_by, owner, grant_of, highest}
-use Rattle.machine.proofs.Clash.{clash}
 
 -- entries after which h is still named
 still_named : (es : List LogEntry) (h u r : ℕ) → NoneAfter es h r → owner (lasting h u) es r ≡ lasting h u
 still_named [] h u r n = refl
-still_named (e ∷ es) h u r n =
-    ap (λ (o : Owner). owner o es r) (cond-false (begins e r) (lasting e.host e.until.0) (ended e r (lasting h u)) n.0 ∙ cond-false (ends e h r) nobody (lasting h u) n.1) ∙ still_named es h u r n.2
+still_named (e ∷ es) h u r n = rw (n.0, n.1) (still_named es h u r n.2)
 
 -- one part of a log after another
 owner_append : (o : Owner) (xs ys : List LogEntry) (r : ℕ) → owner o (xs ++ ys) r ≡ owner (owner o xs r) ys r
@@ -21,11 +19,18 @@ owner_append o (x ∷ xs) ys r = owner_append (named_by o x r) xs ys r
 pub names_owner : (log : List LogEntry) (r t h : ℕ) → Names log r t h → (u : ℕ) × (owner nobody log r ≡ lasting h u) × (t < u)
 names_owner log r t h (front, e, back, is, begin, host, late, n) = (
   e.until.0,
-  ap (λ (es : List LogEntry). owner nobody es r) is ∙ owner_append nobody front (e ∷ back) r
-      ∙ ap (λ (o : Owner). owner o back r) (cond-true (begins e r) (lasting e.host e.until.0) (ended e r (owner nobody front r)) begin ∙ ap (λ (g : ℕ). lasting g e.until.0) host)
-      ∙ still_named back h e.until.0 r n,
+  rw (is, owner_append nobody front (e ∷ back) r, begin, host) (still_named back h e.until.0 r n),
   late,
 )
+
+-- who is named after an entry that begins nothing was named before it, and it does not end that
+pub ended_back : (e : LogEntry) (r : ℕ) (o : Owner) (h u : ℕ) → ended e r o ≡ lasting h u → (o ≡ lasting h u) × (ends e h r ≡ false)
+ended_back e r nobody h u n = cc
+ended_back e r (lasting g v) h u n = go (ends e g r) refl
+  where
+    go : (b : Bool) → ends e g r ≡ b → (lasting g v ≡ lasting h u) × (ends e h r ≡ false)
+    go true i = cc
+    go false i = (cc, let j : g ≡ h = cc in rw j at i)
 
 -- how a log came to name h
 data Cause (o : Owner) (log : List LogEntry) (r h u : ℕ) : Type 0 where
@@ -38,25 +43,18 @@ cause o [] r h u e = before e tt
 cause o (x ∷ log) r h u e = go (cause (named_by o x r) log r h u e)
   where
     go : Cause (named_by o x r) log r h u → Cause o (x ∷ log) r h u
-    go (within front y back is begin host until n) = within (x ∷ front) y back (ap (λ (es : List LogEntry). x ∷ es) is) begin host until n
+    go (within front y back is begin host until n) = within (x ∷ front) y back (rw is) begin host until n
     go (before is n) = elim (cases_Bool (begins x r)) [
-      | inl b ↦ let q : lasting x.host x.until.0 ≡ lasting h u = sym (cond-true (begins x r) (lasting x.host x.until.0) (ended x r o) b) ∙ is in within [] x log refl b (cc) (cc) n
-      | inr b ↦ older o (sym (cond-false (begins x r) (lasting x.host x.until.0) (ended x r o) b) ∙ is) b n
+      | inl b ↦ let q : lasting x.host x.until.0 ≡ lasting h u = rw b at is in within [] x log refl b (cc) (cc) n
+      | inr b ↦ let p = ended_back x r o h u (rw b at is) in before p.0 (b, p.1, n)
     ]
-      where
-        older : (p : Owner) → ended x r p ≡ lasting h u → begins x r ≡ false → NoneAfter log h r → Cause p (x ∷ log) r h u
-        older nobody q b n = clash (cc)
-        older (lasting g v) q b n = elim (cases_Bool (ends x g r)) [
-          | inl d ↦ clash (let y = cond-true (ends x g r) nobody (lasting g v) d in cc)
-          | inr d ↦ let y : lasting g v ≡ lasting h u = sym (cond-false (ends x g r) nobody (lasting g v) d) ∙ q in let z : g ≡ h = cc in before y (b, ap (λ (i : ℕ). ends x i r) (sym z) ∙ d, n)
-        ]
 
 -- whom the entries leave is whom they name
 pub owner_names : (log : List LogEntry) (r t h u : ℕ) → owner nobody log r ≡ lasting h u → t < u → Names log r t h
 owner_names log r t h u e late = go (cause nobody log r h u e)
   where
     go : Cause nobody log r h u → Names log r t h
-    go (before is n) = clash (cc)
+    go (before is n) = cc
     go (within front x back is begin host until n) = (front, x, back, is, begin, host, omega arith, n)
 
 -- a log with one entry more

@@ -1,5 +1,5 @@
 -- The records that a room writes are read back, and a spoiled block is none.
-use Rattle.std.proofs.Common.{◌≡◌, ◌<◌, ◌≤◌, true, ◌⊎◌, Some, None, sym, refl, ap, ◌∙◌, inl, inr, arith}
+use Rattle.std.proofs.Common.{◌≡◌, ◌<◌, ◌≤◌, true, ◌⊎◌, Some, None, refl, ap, inl, inr, arith}
 use Rattle.std.proofs.lemmas.Bool.{and_from, or_left, or_right}
 use Rattle.std.proofs.lemmas.Bool.Decides.{nat_tests}
 use Rattle.format.specs.declared.lease.Kind.{Kind}
@@ -7,10 +7,8 @@ use Rattle.format.specs.declared.lease.Kind.TheVariants.{Free, Owned}
 use Rattle.format.specs.declared.lease.LeaseRecord.{LeaseRecord}
 use Rattle.format.specs.Blocks.{in_range, fits_kind, used, unused, block_of, decoded}
 use Rattle.format.proofs.Decoding.{decodes}
-pub use Rattle.format.proofs.Decoding.{length_block}
 use Rattle.machine.specs.View.{record_by, record_of}
 use Rattle.machine.specs.Writes.{spoiled_block}
-use Rattle.machine.proofs.Clash.{clash}
 
 -- a valid record by its numbers
 pub record Valid (x : LeaseRecord) : Type 0 where
@@ -42,7 +40,7 @@ fits_of x Free e v = elim v.marked [
   | inr u ↦ or_left (used x) (unused x) (is_used x u.0 u.1 u.2)
 ]
 fits_of x Owned e v = elim v.marked [
-  | inl u ↦ clash (let o : Free ≡ Owned = sym u.0 ∙ e in cc)
+  | inl u ↦ cc
   | inr u ↦ is_used x u.0 u.1 u.2
 ]
 

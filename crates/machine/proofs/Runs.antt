@@ -1,10 +1,13 @@
 -- Every run of a room stays sound.
-use Rattle.std.proofs.Common.{◌≡◌, ℕ, ◌<◌, true, List, [], ◌∷◌, ◌++◌, length, get_or, replicate, pos, sym, refl, ap, ◌∙◌, subst, inl, inr, arith}
+use Rattle.std.proofs.Common.{◌≡◌, ℕ, ◌<◌, true, List, [], ◌∷◌, ◌++◌, length, replicate, pos, refl, ap, ◌∙◌, inl, inr, arith}
 use Rattle.std.proofs.lemmas.List.{length-replicate, get_or-replicate, get_or_past}
+use Rattle.std.proofs.lemmas.Int.{ints}
 use Rattle.std.proofs.lemmas.Bool.{cases_Bool, cases_lt}
 use Rattle.machine.specs.declared.types.Host.{Host}
 use Rattle.machine.specs.declared.types.Seat.{Seat}
 use Rattle.machine.specs.declared.types.Seat.TheVariants as seats
+use Rattle.machine.specs.declared.types.Checked.TheVariants.{Granted}
+use Rattle.machine.specs.declared.types.Confirmed.TheVariants.{Stolen}
 use Rattle.machine.specs.declared.settings.Settings.{Settings}
 use Rattle.format.specs.declared.events.LogEntry.{LogEntry}
 use Rattle.disk.specs.Model.{DiskModel}
@@ -14,19 +17,18 @@ use Rattle.machine.specs.Calls.{Call, set_clock, open_room, tick, try, check, re
 use Rattle.machine.specs.Soundness.{SignsExactly, NeverStolen, fresh_world, Holds, Exclusive, Grants, Rising, VacantBefore, LogAgrees, StaysSound, entries}
 use Rattle.machine.specs.View.{held, placed, asked, ticked, view}
 use Rattle.machine.specs.Moves.{EveryCallMoves}
-use Rattle.machine.proofs.Clash.{clash}
 use Rattle.machine.proofs.Core.{HeldUntil}
-use Rattle.machine.proofs.Times.{until_tick, tick_until, not_over}
+use Rattle.machine.proofs.Times.{not_over}
 use Rattle.machine.proofs.Shape.{Whole, Closed, Inv, Kept, Ran, Stand, stood}
-use Rattle.machine.proofs.Bounds.{bounded}
 use Rattle.machine.proofs.Signs.{sign_answers, sign_holds}
 use Rattle.machine.proofs.Seats.{hold_is}
 use Rattle.machine.proofs.Turns.{try_kept, renew_kept, release_kept, watch_kept}
-use Rattle.machine.proofs.Grants.{Grant, check_fair, confirm_kept}
+use Rattle.machine.proofs.Grants.{Grant, check_answers, confirm_answers}
 use Rattle.machine.proofs.Writes.{tick_kept, lose_kept, spoil_kept, land_kept}
 use Rattle.machine.proofs.Hosts.{crash_kept, restart_kept, set_clock_kept, idle_row}
 use Rattle.machine.proofs.Quiet.{quiet_core}
-use Rattle.machine.proofs.Opens.{shut_quiet, shut_record, open_kept}
+use Rattle.machine.proofs.Kept.{shut_untouched}
+use Rattle.machine.proofs.Opens.{shut_record, open_kept}
 use Rattle.machine.proofs.Logs.{names_owner, owner_names}
 
 -- every call keeps a room
@@ -35,9 +37,9 @@ perform_kept w i (set_clock h o) = set_clock_kept w h o i
 perform_kept w i (open_room a) = open_kept w a i
 perform_kept w i tick = tick_kept w i
 perform_kept w i (try h r a) = try_kept w h r a i
-perform_kept w i (check h r a) = (check_fair w h r a i).kept
+perform_kept w i (check h r a) = (check_answers w h r a i).kept
 perform_kept w i (renew h r) = renew_kept w h r i
-perform_kept w i (confirm h r a) = (confirm_kept w h r a i).kept
+perform_kept w i (confirm h r a) = (confirm_answers w h r a i).kept
 perform_kept w i (release h r) = release_kept w h r i
 perform_kept w i (watch h r) = watch_kept w h r i
 perform_kept w i (land x a) = land_kept w x a i
@@ -52,30 +54,32 @@ run_kept w i [] = record { inv = i; tops = λ r. omega arith }
 run_kept w i (c ∷ cs) =
     let n = perform_kept w i c in
     let m = run_kept (perform c w).world n.inv cs in
-    record { inv = m.inv; tops = λ r. omega (arith, n.tops r, m.tops r) }
+    record { inv = m.inv; tops = λ r. omega arith }
 
 -- one part of a run after another
-after_append : (w : World) (xs ys : List Call) → after w (xs ++ ys) ≡ after (after w xs) ys
+pub after_append : (w : World) (xs ys : List Call) → after w (xs ++ ys) ≡ after (after w xs) ys
 after_append w [] ys = refl
 after_append w (x ∷ xs) ys = after_append (perform x w).world xs ys
 
 -- a founded room
 founded_inv : (s : Settings) (d : DiskModel) (log : List LogEntry) → Inv (record { room = founded s d; log = log })
+unfolding view
 founded_inv s d log = record {
   shape = record {
-    bounded = bounded s;
-    hosts = length-replicate 16 host;
-    rows = length-replicate 16 (replicate 8 seats.Idle);
-    row = λ h l. ap length (get_or-replicate 16 h (replicate 8 seats.Idle) [] l) ∙ length-replicate 8 seats.Idle;
-    apart = tt;
-    valid = λ f i. elim i [ ];
-    blocks = λ e. clash (cc);
-    aged = λ h l. omega (arith, ap (λ (x : Host). x.generation) (get_or-replicate 16 h host no_host l));
-    whole = λ h r. subst (Whole (host_at (founded s d) h).offset) (sym (idle_at h r)) tt;
+    seated = record {
+      bounded = assumption;
+      hosts_long = length-replicate 16 host;
+      rows_long = length-replicate 16 (replicate 8 seats.Idle);
+      row = λ h l. ap length (get_or-replicate 16 h (replicate 8 seats.Idle) [] l) ∙ length-replicate 8 seats.Idle;
+      aged = λ h l. omega (arith, ap (λ (x : Host). x.generation) (get_or-replicate 16 h host no_host l));
+      whole = λ h r. rw (idle_at h r) tt;
+      spare = λ h r. inl (idle_at h r);
+    };
+    flying = record { apart = tt; valid = λ f i. elim i [ ] };
+    blocks = λ e. cc;
     closed = λ e. shut;
-    spare = λ h r. inl (idle_at h r);
   };
-  core = quiet_core s (view w) (shut_quiet w shut (λ r y e. clash (let q = shut_record (founded s d) r refl in cc)));
+  core = quiet_core s (view w) (shut_untouched w shut) (λ r y e. let q = shut_record (founded s d) r refl in cc);
 }
   where
     host : Host
@@ -86,11 +90,11 @@ founded_inv s d log = record {
 
     idle_at : (h r : ℕ) → seat_at (founded s d) h r ≡ seats.Idle
     idle_at h r = elim (cases_lt h 16) [
-      | inl l ↦ ap (λ (ys : List Seat). get_or ys r seats.Idle) (get_or-replicate 16 h (replicate 8 seats.Idle) [] l) ∙ idle_row r
-      | inr l ↦ ap (λ (ys : List Seat). get_or ys r seats.Idle) (get_or_past (replicate 16 (replicate 8 seats.Idle)) h [] l)
+      | inl l ↦ rw (get_or-replicate 16 h (replicate 8 seats.Idle) [] l) (idle_row r)
+      | inr l ↦ rw (get_or_past (replicate 16 (replicate 8 seats.Idle)) h [] l)
     ]
 
-    shut : Closed w
+    shut : Closed w.room.seats w.room.flights w.room.logged
     shut = record { seats = idle_at; flights = refl; logged = refl }
 
 -- a host that holds has a held seat of the view, and the other way round
@@ -99,21 +103,21 @@ module _ (w : World) (i : Inv w) where
   unfolding view
   holds_held h r (x, e, soon) =
       let o = (host_at w.room h).offset in
-      let p = hold_is o (seat_at w.room h r) x e (i.shape.whole h r) in
-      (ticked o x.until, (x.term, asked o x.pending, p.0), until_tick o x.until w.room.tick p.1 soon)
+      let p = hold_is o (seat_at w.room h r) x e (i.shape.seated.whole h r) in
+      (ticked o x.until, (x.term, asked o x.pending, p.0), omega (arith, ints))
 
   -- and the other way round
   held_holds : (h r u : ℕ) → HeldUntil (view w) h r u → (view w).tick < u → Holds w.room h r
   unfolding view
-  held_holds h r u (l, p, e) soon = go (seat_at w.room h r) (i.shape.whole h r) refl e
+  held_holds h r u (l, p, e) soon = go (seat_at w.room h r) (i.shape.seated.whole h r) refl e
     where
       go : (x : Seat) → Whole (host_at w.room h).offset x → seat_at w.room h r ≡ x → placed (host_at w.room h).offset x ≡ held l u p → Holds w.room h r
-      go seats.Idle n is e = clash (cc)
-      go (seats.Watching a b) n is e = clash (cc)
-      go (seats.Claimed a b c) n is e = clash (cc)
+      go seats.Idle n is e = cc
+      go (seats.Watching a b) n is e = cc
+      go (seats.Claimed a b c) n is e = cc
       go (seats.Held term until pending) n is e =
           let q : ticked (host_at w.room h).offset until.0 ≡ u = cc in
-          (record { term = term; until = until.0; pending = pending }, ap hold is, tick_until (host_at w.room h).offset until.0 w.room.tick n.0 (omega arith))
+          (record { term = term; until = until.0; pending = pending }, ap hold is, omega (arith, ints))
 
   -- no two hosts hold one resource
   exclusive : Exclusive w.room
@@ -136,10 +140,10 @@ module _ (w : World) (i : Inv w) where
   holds_stands h r (x, e, soon) =
       let n = holds_held h r (x, e, soon) in
       record {
-        opened = elim (cases_Bool w.room.opened) [ inl y ↦ y | inr y ↦ clash (let z = (i.shape.closed y).seats h r in cc) ];
-        host = elim (i.shape.spare h r) [ inl y ↦ clash (cc) | inr y ↦ y.0 ];
-        resource = elim (i.shape.spare h r) [ inl y ↦ clash (cc) | inr y ↦ y.1 ];
-        up = elim (cases_Bool (host_at w.room h).up) [ inl y ↦ y | inr y ↦ clash (let z = i.core.down_idle {h = h} {r = r} y in let v = n.1.2 in cc) ];
+        opened = elim (cases_Bool w.room.opened) [ inl y ↦ y | inr y ↦ let z = (i.shape.closed y).seats h r in cc ];
+        host = elim (i.shape.seated.spare h r) [ inl y ↦ cc | inr y ↦ y.0 ];
+        resource = elim (i.shape.seated.spare h r) [ inl y ↦ cc | inr y ↦ y.1 ];
+        up = elim (cases_Bool (host_at w.room h).up) [ inl y ↦ y | inr y ↦ let z = i.core.down_idle {h = h} {r = r} y in cc ];
       }
 
   -- sign answers who holds, and nobody else
@@ -151,12 +155,12 @@ module _ (w : World) (i : Inv w) where
 
   -- confirm never answers stolen
   never_stolen : NeverStolen w
-  never_stolen h r area e = (confirm_kept w h r area i).not_stolen e
+  never_stolen h r area e = (confirm_answers w h r area i).said Stolen e
 
   -- what a grant says
-  grant_of_call : (c : Call) (r t : ℕ) → Grants w c r t → Grant w (perform c w).world r t
+  grant_of_call : (c : Call) (r t : ℕ) → Grants w c r t → Grant (view w) (view (perform c w).world) r t
   grant_of_call c r t (h, area, until, is, e) =
-      subst (λ (x : Call). Grant w (perform x w).world r t) (sym is) ((check_fair w h r area i).grant t until e)
+      rw is ((check_answers w h r area i).said (Granted t until) e)
 
   -- nobody holds what is being granted
   vacant_before : VacantBefore w
@@ -171,7 +175,7 @@ rising w i before between first later r s t a b =
     let g = grant_of_call v n.inv first r s a in
     let m = perform_kept v n.inv first in
     let z = run_kept x m.inv between in
-    let last : Grants (after x between) later r t = subst (λ (y : World). Grants y later r t) (after_append w before (first ∷ between)) b in
+    let last : Grants (after x between) later r t = rw (after_append w before (first ∷ between)) at b in
     let e = grant_of_call (after x between) z.inv later r t last in
     omega (arith, g.noted, z.tops r, e.above)
 

@@ -7,7 +7,6 @@ use Rattle.format.specs.declared.lease.Kind.TheVariants.{Free, Owned}
 use Rattle.format.specs.declared.lease.Mark.{Mark}
 use Rattle.format.specs.declared.lease.LeaseRecord.{LeaseRecord}
 use Rattle.machine.specs.Seats.{same_mark, same_kind, same_record}
-use Rattle.machine.proofs.Clash.{clash}
 
 -- comparisons say what they seem to
 pub mark_same : (a b : Mark) → same_mark a b ≡ true → a ≡ b
@@ -23,8 +22,8 @@ mark_self a b e = subst (λ (c : Mark). same_mark a c ≡ true) e (grind (arith,
 -- so for kinds
 pub kind_same : (a b : Kind) → same_kind a b ≡ true → a ≡ b
 kind_same Free Free e = refl
-kind_same Free Owned e = clash (cc)
-kind_same Owned Free e = clash (cc)
+kind_same Free Owned e = cc
+kind_same Owned Free e = cc
 kind_same Owned Owned e = refl
 
 -- so for records

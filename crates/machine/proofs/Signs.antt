@@ -1,5 +1,5 @@
 -- What sign answers.
-use Rattle.std.proofs.Common.{◌≡◌, ℕ, false, [], ◌∷◌, Some, None, Ok, Err, Option, Result, sym, refl, ap, ◌∙◌, inl, inr}
+use Rattle.std.proofs.Common.{arith, ◌≡◌, ℕ, false, [], ◌∷◌, Some, None, Ok, Err, Option, Result, refl, ap, ◌∙◌}
 use lib.Signed.{le_z}
 use Rattle.disk.specs.declared.fault.Fault.{Fault}
 use Rattle.disk.specs.declared.fault.Refusal.TheVariants.{WrongSeat}
@@ -8,9 +8,8 @@ use Rattle.machine.specs.Outcomes.{gate, room_fault, standing}
 use Rattle.machine.specs.Seats.{Hold, hold}
 use Rattle.machine.specs.Holding.{late, signs, sign_by, sign_call}
 use Rattle.machine.specs.Soundness.{Holds}
-use Rattle.machine.proofs.Clash.{clash}
-use Rattle.machine.proofs.Times.{below_until}
-use Rattle.machine.proofs.Tests.{AllFalse, gate_passes, gate_cases}
+use Rattle.std.proofs.lemmas.Int.{ints}
+use Rattle.machine.proofs.Tests.{AllFalse, gate_passes, gate_elim}
 
 -- what sign answers of a seat, once the host may call
 abbrev seat_sign : Room → ℕ → Option Hold → Result ℕ Fault
@@ -23,14 +22,8 @@ sign_answers m h r x n e soon =
 
 -- whom sign answers a term holds
 pub sign_holds : (m : Room) (h r k : ℕ) → sign_call m h r ≡ Ok k → Holds m h r
-sign_holds m h r k e = elim (gate_cases m (standing m h r)) [
-  | inl y ↦ clash (let z = ap (sign_by m h r) y.1 in cc)
-  | inr y ↦ seat (hold (seat_at m h r)) refl (sym (ap (sign_by m h r) (gate_passes m (standing m h r) y)) ∙ e)
-]
+sign_holds m h r k = gate_elim m (λ a. sign_by m h r a ≡ Ok k → Holds m h r) (standing m h r) (λ _ e. cc) (λ _. seat (hold (seat_at m h r)) refl)
   where
     seat : (y : Option Hold) → hold (seat_at m h r) ≡ y → seat_sign m h y ≡ Ok k → Holds m h r
-    seat None is o = clash (cc)
-    seat (Some x) is o = elim (gate_cases m (late m h x ∷ [])) [
-      | inl y ↦ clash (let z = ap (signs m h x) y.1 in cc)
-      | inr y ↦ (x, is, below_until x.until (reading m h) y.0)
-    ]
+    seat None is = λ e. cc
+    seat (Some x) is = gate_elim m (λ a. signs m h x a ≡ Ok k → Holds m h r) (late m h x ∷ []) (λ _ e. cc) (λ n _. (x, is, let soon = n.0 in omega (arith, ints)))

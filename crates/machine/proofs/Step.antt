@@ -39,20 +39,26 @@ pub data Holding (s : Settings) (V W : View) (h r k u : ℕ) (p : Option Asked) 
   renewed : (a : Asked) (v : ℕ) (x : LeaseRecord) → p ≡ None → V.seat h r ≡ held k v (Some a) → V.tick < v → u ≡ a.at + s.lease → V.block r ≡ Some x → x.mark ≡ a.mark → W.named r ≡ lasting h u → Holding s V W h r k u p
   granted : (m : Mark) (i : ℕ) → p ≡ None → V.seat h r ≡ claimed m k i → V.block r ≡ Some (claim_record r m k) → i + (2 * s.delay + 1) ≤ V.tick → V.tick < i + s.lease → u ≡ i + s.lease → W.top r ≡ k → W.named r ≡ lasting h u → Holding s V W h r k u p
 
--- r is granted: nobody held it, and only the granted claim can still be read
+-- r is granted: its term is not below, nobody held it, and only the granted claim can still be read
 pub record Granting (V W : View) (r : ℕ) : Type 0 where
+  pub above : V.top r ≤ W.top r
   pub vacant : {g k u : ℕ} {p : Option Asked} → V.seat g r ≡ held k u p → V.tick < u → ⊥
   pub claims : {g k i : ℕ} {m : Mark} → W.seat g r ≡ claimed m k i → Alive V r (claim_record r m k) → ⊥
   pub terms : {x : LeaseRecord} → Alive V r x → W.top r ≤ x.term
 
-pub record Step (s : Settings) (V W : View) : Type 0 where
+-- time, hosts, writes in flight and blocks
+pub record Course (s : Settings) (V W : View) : Type 0 where
   pub later : V.tick ≤ W.tick
   pub ages : (h : ℕ) → ((W.gen h ≡ V.gen h) × (V.stamp h ≤ W.stamp h)) ⊎ ((V.gen h < W.gen h) × ((r : ℕ) → W.seat h r ≡ idle))
+  pub flights : {f : Flight} → In f W.flights → (In f V.flights ⊎ ((f.issued.0 ≡ V.tick) × Issued s V W f.body)) × (W.tick ≤ f.issued.0 + s.delay)
+  pub blocks : {r : ℕ} {y : LeaseRecord} → W.block r ≡ Some y → (V.block r ≡ Some y) ⊎ Landed V W r y
+  pub downs : {h r : ℕ} → W.up h ≡ false → W.seat h r ≡ idle
+
+-- and the seats, the terms and the log
+pub record Step (s : Settings) (V W : View) : Type 0 where
+  pub course : Course s V W
   pub watches : {g q t : ℕ} {y : LeaseRecord} → W.seat g q ≡ watching y t → (V.seat g q ≡ watching y t) ⊎ ((V.block q ≡ Some y) × (t ≡ V.tick))
   pub claims : {h r k i : ℕ} {m : Mark} → W.seat h r ≡ claimed m k i → (V.seat h r ≡ claimed m k i) ⊎ Claims V W h r m k i
   pub holds : {h r k u : ℕ} {p : Option Asked} → W.seat h r ≡ held k u p → Holding s V W h r k u p
-  pub flights : {f : Flight} → In f W.flights → (In f V.flights ⊎ ((f.issued.0 ≡ V.tick) × Issued s V W f.body)) × (W.tick ≤ f.issued.0 + s.delay)
-  pub blocks : {r : ℕ} {y : LeaseRecord} → W.block r ≡ Some y → (V.block r ≡ Some y) ⊎ Landed V W r y
   pub tops : (r : ℕ) → (W.top r ≡ V.top r) ⊎ Granting V W r
   pub names : {r h u : ℕ} → W.named r ≡ lasting h u → ((V.named r ≡ lasting h u) × (HeldUntil V h r u → HeldUntil W h r u)) ⊎ HeldUntil W h r u
-  pub downs : {h r : ℕ} → W.up h ≡ false → W.seat h r ≡ idle

@@ -1,6 +1,6 @@
 -- A chain of tests, and the cases inside an outcome.
-use Rattle.std.proofs.Common.{◌≡◌, Bool, false, ◌⊎◌, List, [], ◌∷◌, Some, None, Ok, Err, Option, Result, refl, ◌∙◌, inl, inr}
-use Rattle.std.proofs.lemmas.Bool.{cond_both, cond-true, cond-false, cases_Bool}
+use Rattle.std.proofs.Common.{◌≡◌, Bool, false, List, [], ◌∷◌, Some, None, Ok, Err, Option, Result, refl, ◌∙◌}
+use Rattle.std.proofs.lemmas.Bool.{cond_both, cond-false}
 use Rattle.format.specs.declared.lease.Kind.{Kind}
 use Rattle.format.specs.declared.lease.Kind.TheVariants.{Free, Owned}
 use Rattle.disk.specs.declared.fault.Fault.{Fault}
@@ -13,12 +13,16 @@ abbrev pub AllFalse : List (Bool × Refusal) → Type 0
 AllFalse [] = Unit {0}
 AllFalse (x ∷ xs) = (x.0 ≡ false) × AllFalse xs
 
+-- tests refuse, or none of them holds
+pub gate_elim : (m : Room) (P : Result (Unit {0}) Fault → Type 0) (xs : List (Bool × Refusal)) → ((c : Refusal) → P (Err (room_fault m c 0))) → (AllFalse xs → P (Ok tt)) → P (gate m xs)
+gate_elim m P [] left right = right tt
+gate_elim m P (x ∷ xs) left right =
+    let n = gate_elim m P xs left in
+    cond_both x.0 (Err (room_fault m x.1 0)) (gate m xs) P (λ _. left x.1) (λ e. n (λ f. right (e, f)))
+
 -- a call refuses, leaving the world as it was, or no test held
 pub unless_elim : {A : Type 0} (P : Outcome A → Type 0) (w : World) (o : Outcome A) (xs : List (Bool × Refusal)) → ((c : Refusal) → P (refused w c 0)) → (AllFalse xs → P o) → P (unless w xs o)
-unless_elim P w o [] left right = right tt
-unless_elim P w o (x ∷ xs) left right =
-    let n = unless_elim P w o xs left in
-    cond_both x.0 (Err (room_fault w.room x.1 0)) (gate w.room xs) (λ (a : Result (Unit {0}) Fault). P (then a w o)) (λ _. left x.1) (λ e. n (λ f. right (e, f)))
+unless_elim P w o xs left right = gate_elim w.room (λ a. P (then a w o)) xs left right
 
 -- by the cases of a term inside an outcome
 pub by_kind : {A : Type 0} (P : Outcome A → Type 0) (c : Kind) (a b : Outcome A) → (c ≡ Free → P a) → (c ≡ Owned → P b) → P (elim c [ Free ↦ a | Owned ↦ b ])
@@ -34,14 +38,3 @@ by_option P (Some x) a f g h = h x refl
 pub gate_passes : (m : Room) (xs : List (Bool × Refusal)) → AllFalse xs → gate m xs ≡ Ok tt
 gate_passes m [] n = refl
 gate_passes m (x ∷ xs) n = cond-false x.0 (Err (room_fault m x.1 0)) (gate m xs) n.0 ∙ gate_passes m xs n.1
-
--- tests refuse, or none of them holds
-pub gate_cases : (m : Room) (xs : List (Bool × Refusal)) → ((f : Fault) × (gate m xs ≡ Err f)) ⊎ AllFalse xs
-gate_cases m [] = inr tt
-gate_cases m (x ∷ xs) = elim (cases_Bool x.0) [
-  | inl e ↦ inl (room_fault m x.1 0, cond-true x.0 (Err (room_fault m x.1 0)) (gate m xs) e)
-  | inr e ↦ elim (gate_cases m xs) [
-    | inl y ↦ inl (y.0, cond-false x.0 (Err (room_fault m x.1 0)) (gate m xs) e ∙ y.1)
-    | inr y ↦ inr (e, y)
-  ]
-]

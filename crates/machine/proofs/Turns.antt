@@ -1,5 +1,6 @@
 -- What a host's calls keep: try, renew, release, watch.
-use Rattle.std.proofs.Common.{◌≡◌, ℕ, ◌+◌, true, leb, List, ◌∷◌, Some, sym, refl, ap, ◌∙◌, arith}
+use Rattle.std.proofs.Common.{◌≡◌, ℕ, ◌+◌, true, leb, List, ◌∷◌, Some, refl, ◌∙◌, arith}
+use Rattle.std.proofs.lemmas.Int.{ints}
 use Rattle.std.proofs.lemmas.Bool.{cond_both, not-false, or_parts, leb-false}
 use Rattle.format.specs.declared.lease.Kind.TheVariants.{Free, Owned}
 use Rattle.format.specs.declared.lease.LeaseRecord.{LeaseRecord}
@@ -10,17 +11,17 @@ use Rattle.format.specs.declared.events.Event.TheVariants as events
 use Rattle.disk.specs.declared.fault.Refusal.TheVariants.{WrongSeat}
 use Rattle.machine.specs.Room.{World, host_at, seat_at, reading}
 use Rattle.machine.specs.Outcomes.{Outcome, log_test, standing, refused}
-use Rattle.machine.specs.Steps.{next_mark, issue_tests, plain_entry}
+use Rattle.machine.specs.Steps.{next_mark, issue_tests, plain_entry, read_at}
 use Rattle.machine.specs.Seats.{is_vacant, hold, claim, watched, same_record}
 use Rattle.machine.specs.Holding.{expire_tests, leave_tests, late, renew_call, release_call, watch_call}
 use Rattle.machine.specs.Claiming.{try_tests, still_tests, claim_tests, watching, claiming, tried, try_call}
-use Rattle.machine.specs.View.{watching as watching_place, idle, claimed, held, asked, ticked, view}
+use Rattle.machine.specs.View.{asked, ticked, view}
 use Rattle.machine.specs.Moves.{Move, Open, free, still}
 use Rattle.machine.proofs.Tests.{unless_elim, by_kind, by_option}
 use Rattle.machine.proofs.Same.{record_same}
-use Rattle.machine.proofs.Times.{now_ticked, now_ticks, not_early, before_until, past_until}
+use Rattle.machine.proofs.Times.{now_ticked}
 use Rattle.machine.proofs.Shape.{Inv, Kept, Stand, stands}
-use Rattle.machine.proofs.Kept.{kept_same, kept_from, read_view, read_kept, reading_elim, read_world}
+use Rattle.machine.proofs.Kept.{kept_same, kept_from, read_view, read_kept, reading_elim}
 use Rattle.machine.proofs.Seats.{vacant_placed, watched_is, claim_is, hold_is, seat_turn, logged_turn, sent_turn, sent_logged_turn}
 
 -- a host notes the record that it read
@@ -28,8 +29,8 @@ watching_kept : (w : World) (h r : ℕ) (x : LeaseRecord) → Inv w → Stand w 
 unfolding view
 watching_kept w h r x i t v b =
     let o = (host_at w.room h).offset in
-    seat_turn w h r (seats.Watching x (record { 0 = reading w.room h })) (watching_place x w.room.tick) i t
-    (now_ticks o w.room.tick) (ap (watching_place x) (now_ticked o w.room.tick))
+    seat_turn w h r (seats.Watching x (record { 0 = reading w.room h })) i t
+    (omega (arith, ints)) (rw (now_ticked o w.room.tick))
     (λ turn l u. Move.notes h r x turn l u (vacant_placed o (seat_at w.room h r) v) b)
 
 -- a host claims over the record that it read
@@ -40,8 +41,8 @@ claiming_kept w h r x i t v b why =
     let o = (host_at m h).offset in
     unless_elim (λ (y : Outcome Tried). Kept w y.world) w _ (claim_tests m h x) (λ _. kept_same w i)
     (λ f. let p = or_parts (leb 9999 (host_at m h).stamp) (leb 999999 x.term) f.1.0 in
-    sent_turn w h r (seats.Claimed (next_mark m h) (x.term + 1) (record { 0 = reading m h })) (claimed (next_mark m h) (x.term + 1) m.tick) i t
-    (now_ticks o m.tick, omega arith, omega (arith, leb-false 999999 x.term p.1)) (ap (claimed (next_mark m h) (x.term + 1)) (now_ticked o m.tick))
+    sent_turn w h r (seats.Claimed (next_mark m h) (x.term + 1) (record { 0 = reading m h })) i t
+    (omega (arith, ints), omega arith, omega (arith, leb-false 999999 x.term p.1)) (rw (now_ticked o m.tick))
     Owned (x.term + 1) p.0 (omega arith) (omega (arith, leb-false 999999 x.term p.1))
     (λ turn l u. Move.claims h r (next_mark m h) x turn l u (vacant_placed o (seat_at m h r) v) b why))
 
@@ -54,11 +55,11 @@ tried_kept w h r x i t v b =
     let o = (host_at m h).offset in
     by_kind P x.kind (claiming w h r x) _ (λ e. claiming_kept w h r x i t v b (free e))
     (λ _. by_option P (watched (seat_at m h r)) (watching w h r x) _ (λ _. watching_kept w h r x i t v b)
-    (λ y e. let p = watched_is o (seat_at m h r) y e (i.shape.whole h r) in
+    (λ y e. let p = watched_is o (seat_at m h r) y e (i.shape.seated.whole h r) in
     cond_both (same_record x y.seen) _ (watching w h r x) P
     (λ same. unless_elim P w (claiming w h r x) (still_tests m h y.since) (λ _. kept_same w i)
-    (λ f. claiming_kept w h r x i t v b (still (ticked o y.since) (p.0 ∙ ap (λ (z : LeaseRecord). watching_place z (ticked o y.since)) (sym (record_same x y.seen same)))
-    (not_early o y.since m.tick m.settings.lease p.1 f.0))))
+    (λ f. claiming_kept w h r x i t v b (still (ticked o y.since) (p.0 ∙ rw (record_same x y.seen same))
+    (omega (arith, ints)))))
     (λ _. watching_kept w h r x i t v b)))
 
 -- try keeps a room
@@ -68,11 +69,9 @@ try_kept w h r area i =
     let P : Outcome Tried → Type 0 = λ y. Kept w y.world in
     unless_elim P w _ (try_tests w.room h r area) (λ _. kept_same w i)
     (λ f. let t = stands w h r (f.1.0, (f.1.1.0, (f.1.1.1.0, tt))) in
-    let n = read_kept w r i t.opened t.resource in
-    let v = read_world w r i t.opened t.resource in
-    let t' : Stand v h r = record { opened = t.opened; host = t.host; resource = t.resource; up = t.up } in
-    reading_elim w r i t.opened t.resource P (tried h r) (λ _. n)
-    (λ x b. kept_from w v _ refl (read_view w r i t.opened t.resource) (tried_kept v h r x n.inv t' (not-false (is_vacant (seat_at w.room h r)) f.1.1.1.1.0) b)))
+    let n = read_kept w r i t.opened in
+    reading_elim w r P (tried h r) t.opened t.resource (λ _. n)
+    (λ x b. kept_from w (read_at w r) _ refl (read_view w r) (tried_kept (read_at w r) h r x n.inv t (not-false (is_vacant (seat_at w.room h r)) f.1.1.1.1.0) b)))
 
 -- renew keeps a room
 pub renew_kept : (w : World) (h r : ℕ) → Inv w → Kept w (renew_call w h r).world
@@ -83,13 +82,12 @@ renew_kept w h r i =
     let o = (host_at m h).offset in
     unless_elim P w _ (standing m h r) (λ _. kept_same w i)
     (λ f. let t = stands w h r f in by_option P (hold (seat_at m h r)) (refused w WrongSeat 0) _ (λ _. kept_same w i)
-    (λ x e. let p = hold_is o (seat_at m h r) x e (i.shape.whole h r) in
+    (λ x e. let p = hold_is o (seat_at m h r) x e (i.shape.seated.whole h r) in
     unless_elim P w _ (late m h x ∷ issue_tests m h) (λ _. kept_same w i)
-    (λ g. sent_turn w h r (seats.Held x.term (record { 0 = x.until }) (Some (record { mark = next_mark m h; issued = record { 0 = reading m h } })))
-    (held x.term (ticked o x.until) (Some (record { mark = next_mark m h; at = m.tick }))) i t
-    (p.1, p.2, p.3, now_ticks o m.tick) (ap (λ (n : ℕ). held x.term (ticked o x.until) (Some (record { mark = next_mark m h; at = n }))) (now_ticked o m.tick))
+    (λ g. sent_turn w h r (seats.Held x.term (record { 0 = x.until }) (Some (record { mark = next_mark m h; issued = record { 0 = reading m h } }))) i t
+    (p.1, p.2, p.3, omega (arith, ints)) (rw (now_ticked o m.tick))
     Owned x.term g.1.1.0 p.2 p.3
-    (λ turn l u. Move.renews h r (next_mark m h) x.term (ticked o x.until) (asked o x.pending) turn l u p.0 (before_until o x.until m.tick p.1 g.0)))))
+    (λ turn l u. Move.renews h r (next_mark m h) x.term (ticked o x.until) (asked o x.pending) turn l u p.0 (omega (arith, ints))))))
 
 -- release keeps a room
 pub release_kept : (w : World) (h r : ℕ) → Inv w → Kept w (release_call w h r).world
@@ -100,10 +98,10 @@ release_kept w h r i =
     let o = (host_at m h).offset in
     unless_elim P w _ (standing m h r) (λ _. kept_same w i)
     (λ f. let t = stands w h r f in by_option P (hold (seat_at m h r)) (refused w WrongSeat 0) _ (λ _. kept_same w i)
-    (λ x e. let p = hold_is o (seat_at m h r) x e (i.shape.whole h r) in
+    (λ x e. let p = hold_is o (seat_at m h r) x e (i.shape.seated.whole h r) in
     unless_elim P w _ (log_test w ∷ late m h x ∷ issue_tests m h) (λ _. kept_same w i)
-    (λ g. sent_logged_turn w h r seats.Idle idle i t tt refl Free x.term g.1.1.1.0 p.2 p.3 (plain_entry m events.Released h r x.term) g.0
-    (λ turn l u. Move.releases h r (next_mark m h) x.term (ticked o x.until) (asked o x.pending) turn l u p.0 (before_until o x.until m.tick p.1 g.1.0)))))
+    (λ g. sent_logged_turn w h r seats.Idle i t tt refl Free x.term g.1.1.1.0 p.2 p.3 (plain_entry m events.Released h r x.term) g.0
+    (λ turn l u. Move.releases h r (next_mark m h) x.term (ticked o x.until) (asked o x.pending) turn l u p.0 (omega (arith, ints))))))
 
 -- watch keeps a room
 pub watch_kept : (w : World) (h r : ℕ) → Inv w → Kept w (watch_call w h r).world
@@ -115,11 +113,11 @@ watch_kept w h r i =
     unless_elim P w _ (standing m h r) (λ _. kept_same w i)
     (λ f. let t = stands w h r f in by_option P (hold (seat_at m h r)) _ _
     (λ _. by_option P (claim (seat_at m h r)) (refused w WrongSeat 0) _ (λ _. kept_same w i)
-    (λ x e. let p = claim_is o (seat_at m h r) x e (i.shape.whole h r) in
+    (λ x e. let p = claim_is o (seat_at m h r) x e (i.shape.seated.whole h r) in
     unless_elim P w _ (leave_tests w h x) (λ _. kept_same w i)
-    (λ g. seat_turn w h r seats.Idle idle i t tt refl (λ turn l u. Move.leaves h r x.mark x.term (ticked o x.issued) turn l u p.0
-    (omega (arith, not_early o x.issued m.tick m.settings.lease p.1 g.1.0, i.shape.bounded.lease_low))))))
-    (λ x e. let p = hold_is o (seat_at m h r) x e (i.shape.whole h r) in
+    (λ g. seat_turn w h r seats.Idle i t tt refl (λ turn l u. Move.leaves h r x.mark x.term (ticked o x.issued) turn l u p.0
+    (omega (arith, ints, i.shape.seated.bounded.lease_low))))))
+    (λ x e. let p = hold_is o (seat_at m h r) x e (i.shape.seated.whole h r) in
     unless_elim P w _ (expire_tests w h x) (λ _. kept_same w i)
-    (λ g. logged_turn w h r seats.Idle idle i t tt refl (plain_entry m events.Expired h r x.term) g.0
-    (λ turn l u. Move.expires h r x.term (ticked o x.until) (asked o x.pending) turn l u p.0 (past_until o x.until m.tick p.1 g.1.0)))))
+    (λ g. logged_turn w h r seats.Idle i t tt refl (plain_entry m events.Expired h r x.term) g.0
+    (λ turn l u. Move.expires h r x.term (ticked o x.until) (asked o x.pending) turn l u p.0 (omega (arith, ints))))))

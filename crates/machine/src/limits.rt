@@ -10,23 +10,16 @@ impl Settings {
     pub fn new(hosts: usize, resources: usize, delay: u32, lease: u32) -> Result<Settings, Refusal>
         ensures { MakesSettings hosts resources delay lease result }
     {
-        if hosts < 1 || hosts > 16 {
-            return Err(Refusal::BadValue);
+        match (hosts, resources, delay) {
+            (1..=16, 1..=8, 1..=1000) if (2 * delay + 2..=60_000).contains(&lease) => {
+                Ok(Settings {
+                    hosts,
+                    resources,
+                    delay,
+                    lease,
+                })
+            }
+            _ => Err(Refusal::BadValue),
         }
-        if resources < 1 || resources > 8 {
-            return Err(Refusal::BadValue);
-        }
-        if delay < 1 || delay > 1000 {
-            return Err(Refusal::BadValue);
-        }
-        if lease < 2 * delay + 2 || lease > 60_000 {
-            return Err(Refusal::BadValue);
-        }
-        Ok(Settings {
-            hosts,
-            resources,
-            delay,
-            lease,
-        })
     }
 }

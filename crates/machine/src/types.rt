@@ -32,6 +32,7 @@ pub enum Seat {
 }
 
 // A host: how far its clock is off, whether it is up, how often it has started, and the last stamp that it has used.
+// No `Option` of what is up: generation and stamp are kept while it is down.
 #[derive(Clone, Copy, PartialEq, Eq, Debug)]
 pub struct Host {
     pub offset: i32,
@@ -47,21 +48,22 @@ pub struct Flight {
     pub issued: Tick,
 }
 
-// What a try answers.
+// What a try answers; no `Option<Mark>`, since what it answers without a mark is that it watches.
 #[derive(Clone, Copy, PartialEq, Eq, Debug)]
 pub enum Tried {
     Watching,
     Claimed(Mark),
 }
 
-// What a check answers: the lease with its term, until a reading of the host's clock, or that the claim was overwritten.
+// What a check answers: the lease with its term, until a reading of the host's clock, or that the claim was overwritten;
+// no `Result`, since a check that answers so was not refused.
 #[derive(Clone, Copy, PartialEq, Eq, Debug)]
 pub enum Checked {
     Granted { term: u32, until: Reading },
     Stolen,
 }
 
-// What a confirm answers.
+// What a confirm answers; no `Result`, since a confirm that answers `Stolen` was not refused.
 #[derive(Clone, Copy, PartialEq, Eq, Debug)]
 pub enum Confirmed {
     Renewed,
