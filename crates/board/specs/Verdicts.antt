@@ -115,6 +115,10 @@ open_tests m area = area_test area ∷ (m.opened, NotOpen) ∷ []
 abbrev pub mark_of : WriteName → Mark
 mark_of x = record { owner = x.owner; generation = x.generation; stamp = x.stamp }
 
+-- the name of the write with this mark
+abbrev pub name_of : Mark → WriteName
+name_of x = record { owner = x.owner; generation = x.generation; stamp = x.stamp }
+
 -- the area is a block long, and the room is open
 abbrev pub land_tests : Room → List ℕ → List (Bool × Refusal)
 land_tests m area = area_test area ∷ (not m.opened, NotOpen) ∷ []

@@ -22,15 +22,14 @@ impl Board {
         ensures logged { self.new.logged ≡ self.old.logged }
         ensures room { (d : DiskModel) → over d self.new ≡ with_seat (over d self.old) host resource seat }
     {
-        let place = &mut self.seats[host][resource];
-        *place = seat;
+        self.seats.put(host, resource, seat);
     }
 
     // Puts a record in flight under the host's next stamp, and answers its mark.
     pub(crate) fn issue(&mut self, host: usize, resource: usize, kind: Kind, term: u32) -> Mark
         requires host { host < 16 }
         requires resource { resource < 8 }
-        requires spare { self.old.flying < 32 }
+        requires spare { length (alone self.old).flights < 32 }
         requires stamp { (host_at (alone self.old) host).stamp < 9999 }
         ensures mark { result ≡ next_mark (alone self.old) host }
         ensures logged { self.new.logged ≡ self.old.logged }
@@ -53,11 +52,10 @@ impl Board {
             term,
         };
         self.hosts[host].stamp = stamp + 1;
-        self.flights[self.flying] = Flight {
+        self.flights.push(Flight {
             body,
             issued: self.tick,
-        };
-        self.flying += 1;
+        });
         mark
     }
 
@@ -124,7 +122,7 @@ impl Board {
         ensures room { (d : DiskModel) → over d self.new ≡ taken_down (over d self.old) host }
     {
         self.hosts[host].up = false;
-        self.seats[host] = [Seat::Idle; 8];
+        self.seats.leave(host);
     }
 
     // The host is up in its next generation, with no stamp used.

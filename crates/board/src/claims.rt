@@ -8,7 +8,6 @@ ghost use Rattle.board.specs.Verdicts.{claim_to_check, raised, verdict};
 
 use crate::board::Board;
 use crate::clock::later;
-use crate::compare::are_same_records;
 use crate::turns::{ClaimToCheck, Turn};
 use disk::Refusal;
 use format::{Event, Kind, LeaseRecord, LogEntry};
@@ -22,7 +21,7 @@ impl Board {
         ensures long { OnOk result (length area.now ≡ 512) }
     {
         self.admits(host, resource, area)?;
-        match self.seats[host][resource] {
+        match self.seats.rows[host][resource] {
             Seat::Idle => Ok(Turn { host, resource }),
             Seat::Watching { .. } => Ok(Turn { host, resource }),
             _ => Err(Refusal::WrongSeat),
@@ -69,11 +68,11 @@ impl Board {
         let Seat::Watching {
             seen: watched,
             since,
-        } = self.seats[host][resource]
+        } = self.seats.rows[host][resource]
         else {
             return Ok(self.watch_record(host, resource, seen));
         };
-        if !are_same_records(seen, watched) {
+        if seen != watched {
             return Ok(self.watch_record(host, resource, seen));
         }
         self.still(host, since)?;
@@ -94,7 +93,7 @@ impl Board {
         ensures place { OnOk result (self.now.logged < length log.now) }
     {
         self.admits(host, resource, area)?;
-        let Seat::Claimed { mark, term, issued } = self.seats[host][resource] else {
+        let Seat::Claimed { mark, term, issued } = self.seats.rows[host][resource] else {
             return Err(Refusal::WrongSeat);
         };
         self.checkable(host, issued, log)?;
@@ -149,7 +148,7 @@ impl Board {
             mark: claim.mark,
             term: claim.term,
         };
-        if !are_same_records(seen, claimed) {
+        if seen != claimed {
             self.put_seat(claim.host, claim.resource, Seat::Idle);
             return Ok(Checked::Stolen);
         }

@@ -8,7 +8,6 @@ ghost use Rattle.board.specs.Verdicts.{extended, raised, renewal_to_confirm, ter
 
 use crate::board::Board;
 use crate::clock::later;
-use crate::compare::are_same_marks;
 use crate::turns::RenewalToConfirm;
 use disk::Refusal;
 use format::{Event, Kind, LeaseRecord, LogEntry, Mark};
@@ -21,7 +20,7 @@ impl Board {
         ensures world { (d : DiskModel) (log : List LogEntry) → world_over d self.new log ≡ (renew_call (world_over d self.old log) host resource).world }
     {
         self.standing(host, resource)?;
-        let Seat::Held { term, until, .. } = self.seats[host][resource] else {
+        let Seat::Held { term, until, .. } = self.seats.rows[host][resource] else {
             return Err(Refusal::WrongSeat);
         };
         self.renewable(host, until)?;
@@ -55,7 +54,7 @@ impl Board {
             term,
             until,
             pending,
-        } = self.seats[host][resource]
+        } = self.seats.rows[host][resource]
         else {
             return Err(Refusal::WrongSeat);
         };
@@ -119,7 +118,7 @@ impl Board {
         ensures world { (d : DiskModel) → world_over d self.new log.new ≡ (judged_renewal renewal (world_over d self.old log.old) seen).world }
     {
         self.loggable(log)?;
-        if are_same_marks(seen.mark, renewal.pending.mark) {
+        if seen.mark == renewal.pending.mark {
             self.extend(renewal, log);
             return Ok(Confirmed::Renewed);
         }
@@ -141,7 +140,7 @@ impl Board {
         ensures world { (d : DiskModel) → world_over d self.new log.new ≡ (release_call (world_over d self.old log.old) host resource).world }
     {
         self.standing(host, resource)?;
-        let Seat::Held { term, until, .. } = self.seats[host][resource] else {
+        let Seat::Held { term, until, .. } = self.seats.rows[host][resource] else {
             return Err(Refusal::WrongSeat);
         };
         self.releasable(host, until, log)?;
@@ -163,7 +162,7 @@ impl Board {
         ensures world { (d : DiskModel) → world_over d self.new log.new ≡ (watch_call (world_over d self.old log.old) host resource).world }
     {
         self.standing(host, resource)?;
-        match self.seats[host][resource] {
+        match self.seats.rows[host][resource] {
             Seat::Held { term, until, .. } => {
                 self.ended(host, until, log)?;
                 let entry = self.plain_entry(Event::Expired, host, resource, term);
@@ -185,7 +184,7 @@ impl Board {
         ensures { result ≡ term_to_sign (alone self.now) host resource }
     {
         self.standing(host, resource)?;
-        let Seat::Held { term, until, .. } = self.seats[host][resource] else {
+        let Seat::Held { term, until, .. } = self.seats.rows[host][resource] else {
             return Err(Refusal::WrongSeat);
         };
         self.in_time(host, until)?;

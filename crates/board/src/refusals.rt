@@ -15,9 +15,6 @@ use disk::{BLOCK_LENGTH, Refusal};
 use format::{LeaseRecord, LogEntry, Reading};
 use machine::Settings;
 
-// The most writes in flight.
-const MOST_FLIGHTS: usize = 32;
-
 // The last stamp of a generation.
 const LAST_STAMP: u32 = 9999;
 
@@ -79,9 +76,9 @@ impl Board {
     pub(crate) fn issuable(&self, host: usize) -> Result<(), Refusal>
         requires { host < 16 }
         ensures answer { result ≡ verdict (issue_tests (alone self.now) host) }
-        ensures spare { OnOk result ((self.now.flying < 32) × ((host_at (alone self.now) host).stamp < 9999)) }
+        ensures spare { OnOk result ((length (alone self.now).flights < 32) × ((host_at (alone self.now) host).stamp < 9999)) }
     {
-        if self.flying >= MOST_FLIGHTS {
+        if self.flights.is_full() {
             return Err(Refusal::FlightFull);
         }
         if self.hosts[host].stamp >= LAST_STAMP {
@@ -94,7 +91,7 @@ impl Board {
     pub(crate) fn renewable(&self, host: usize, until: Reading) -> Result<(), Refusal>
         requires { host < 16 }
         ensures answer { result ≡ verdict (renew_tests (alone self.now) host until.0) }
-        ensures spare { OnOk result ((self.now.flying < 32) × ((host_at (alone self.now) host).stamp < 9999)) }
+        ensures spare { OnOk result ((length (alone self.now).flights < 32) × ((host_at (alone self.now) host).stamp < 9999)) }
     {
         self.in_time(host, until)?;
         self.issuable(host)
@@ -110,7 +107,7 @@ impl Board {
         requires { host < 16 }
         ensures answer { result ≡ verdict (release_tests (alone_with self.now log.now) host until.0) }
         ensures place { OnOk result (self.now.logged < length log.now) }
-        ensures spare { OnOk result ((self.now.flying < 32) × ((host_at (alone self.now) host).stamp < 9999)) }
+        ensures spare { OnOk result ((length (alone self.now).flights < 32) × ((host_at (alone self.now) host).stamp < 9999)) }
     {
         self.loggable(log)?;
         self.renewable(host, until)
@@ -172,9 +169,9 @@ impl Board {
     pub(crate) fn claimable(&self, host: usize, seen: LeaseRecord) -> Result<(), Refusal>
         requires { host < 16 }
         ensures answer { result ≡ verdict (claim_tests (alone self.now) host seen) }
-        ensures spare { OnOk result ((self.now.flying < 32) × ((host_at (alone self.now) host).stamp < 9999) × (seen.term < 999999)) }
+        ensures spare { OnOk result ((length (alone self.now).flights < 32) × ((host_at (alone self.now) host).stamp < 9999) × (seen.term < 999999)) }
     {
-        if self.flying >= MOST_FLIGHTS {
+        if self.flights.is_full() {
             return Err(Refusal::FlightFull);
         }
         if self.hosts[host].stamp >= LAST_STAMP || seen.term >= LAST_TERM {

@@ -8,7 +8,7 @@ ghost use Rattle.board.specs.Over.{alone, over, world_over};
 ghost use Rattle.board.specs.Verdicts.{open_tests, raised, verdict};
 
 use crate::board::Board;
-use crate::flights::keep_young;
+use crate::flights::is_lost;
 use disk::{BLOCK_LENGTH, Refusal};
 use format::{Tick, is_offset};
 
@@ -70,8 +70,8 @@ impl Board {
         ensures { (d : DiskModel) → over d self.new ≡ one_tick_on (over d self.old) }
     {
         let tick = Tick(self.tick.0 + 1);
-        let young = keep_young(&mut self.flights, self.flying, self.settings.delay, tick);
-        self.flying = young;
+        let delay = self.settings.delay;
+        self.flights.retain(|flight| !is_lost(*flight, delay, tick));
         self.tick = tick;
     }
 

@@ -6,7 +6,7 @@ use format::{Mark, Reading};
 use machine::Pending;
 
 // A host at its seat for a resource, both of them there.
-#[derive(Clone, Copy)]
+#[derive(Clone, Copy, PartialEq, Eq, Debug)]
 pub struct Turn {
     pub(crate) host: usize,
     pub(crate) resource: usize,
@@ -15,7 +15,7 @@ pub struct Turn {
 }
 
 // A claim that may be judged by the record in the block of its resource.
-#[derive(Clone, Copy)]
+#[derive(Clone, Copy, PartialEq, Eq, Debug)]
 pub struct ClaimToCheck {
     pub(crate) host: usize,
     pub(crate) resource: usize,
@@ -28,7 +28,7 @@ pub struct ClaimToCheck {
 }
 
 // A pending renewal that may be judged by the record in the block of its resource.
-#[derive(Clone, Copy)]
+#[derive(Clone, Copy, PartialEq, Eq, Debug)]
 pub struct RenewalToConfirm {
     pub(crate) host: usize,
     pub(crate) resource: usize,

@@ -10,7 +10,7 @@ ghost use Rattle.board.specs.Over.{alone, over, world_over};
 ghost use Rattle.board.specs.Verdicts.{mark_of, raised, verdict, write_to_land};
 
 use crate::board::Board;
-use crate::flights::{close_gap, place_of};
+use crate::flights::place_of;
 use crate::naming::WriteName;
 use disk::{BLOCK_LENGTH, Refusal};
 use format::LeaseRecord;
@@ -20,7 +20,7 @@ impl Board {
     fn in_flight(&self, name: WriteName) -> Option<LeaseRecord>
         ensures { result ≡ option_map (λ f. f.body) (find (mark_of name) (alone self.now).flights) }
     {
-        let at = place_of(&self.flights, self.flying, name)?;
+        let at = place_of(&self.flights, name)?;
         Some(self.flights[at].body)
     }
 
@@ -35,22 +35,16 @@ impl Board {
         if !self.opened {
             return Err(Refusal::NotOpen);
         }
-        match self.in_flight(name) {
-            Some(body) => Ok(body),
-            None => Err(Refusal::NoSuchWrite),
-        }
+        self.in_flight(name).ok_or(Refusal::NoSuchWrite)
     }
 
     // Takes the write of this name out of flight, if there is one.
     pub fn take_out(&mut self, name: WriteName)
         ensures { (d : DiskModel) → over d self.new ≡ with_flights (over d self.old) (removed (mark_of name) (over d self.old).flights) }
     {
-        let flying = self.flying;
-        let Some(at) = place_of(&self.flights, flying, name) else {
-            return;
-        };
-        close_gap(&mut self.flights, flying, at);
-        self.flying = flying - 1;
+        if let Some(at) = place_of(&self.flights, name) {
+            self.flights.remove(at);
+        }
     }
 
     // Loses a write that is in flight.

@@ -2,8 +2,8 @@ use Rattle.std.proofs.Common.{rules}
 use Rattle.board.proofs.board.Board.judge_claim.Goals as goal
 
 -- another record stands in the block
-pub returns-then-not-are_same_records : goal.returns-then-not-are_same_records
-returns-then-not-are_same_records c = record {
+pub returns-then-ne : goal.returns-then-ne
+returns-then-ne c = record {
   answer = search rules;
   world = λ d. let p = c.put_seat.ensures.room d in search rules;
 }

@@ -2,8 +2,8 @@ use Rattle.std.proofs.Common.{rules}
 use Rattle.board.proofs.board.Board.judge_renewal.Goals as goal
 
 -- the renewal stands in the block
-pub returns-then-are_same_marks : goal.returns-then-are_same_marks
-returns-then-are_same_marks c = record {
+pub returns-then-eq : goal.returns-then-eq
+returns-then-eq c = record {
   answer = search rules;
   world = λ d. let e = c.extend.ensures d in search rules;
 }

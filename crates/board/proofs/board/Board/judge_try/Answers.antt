@@ -6,17 +6,17 @@ use Rattle.board.proofs.Verdicts.{unless_refuses}
 use Rattle.board.proofs.board.Board.judge_try.Goals as goal
 
 -- nothing was watched
-pub returns-in_default-seats : goal.returns-in_default-seats
-returns-in_default-seats c = record {
+pub returns-in_default-rows : goal.returns-in_default-rows
+returns-in_default-rows c = record {
   answer = λ d log. let w = c.watch_record.ensures.answer d log in search rules;
   world = λ d log. let w = c.watch_record.ensures.world d log in search rules;
 }
 
 -- another record was watched
-pub returns-then-not-are_same_records : goal.returns-then-not-are_same_records
-returns-then-not-are_same_records c = record {
-  answer = λ d log. let w = c.watch_record-then-not-are_same_records.ensures.answer d log in search rules;
-  world = λ d log. let w = c.watch_record-then-not-are_same_records.ensures.world d log in search rules;
+pub returns-then-ne : goal.returns-then-ne
+returns-then-ne c = record {
+  answer = λ d log. let w = c.watch_record-then-ne.ensures.answer d log in search rules;
+  world = λ d log. let w = c.watch_record-then-ne.ensures.world d log in search rules;
 }
 
 -- the record has not stood still for a lease

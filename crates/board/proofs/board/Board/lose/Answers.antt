@@ -1,4 +1,4 @@
-use Rattle.std.proofs.Common.{◌≡◌, true, take, is_some, Some, None, Option, sym, refl, ap, ◌∙◌, rules}
+use Rattle.std.proofs.Common.{◌≡◌, true, is_some, Some, None, Option, sym, refl, ap, ◌∙◌, rules}
 use Rattle.std.specs.Option.{option_map}
 use Rattle.machine.specs.declared.types.Flight.{Flight}
 use Rattle.machine.specs.Writes.{find}
@@ -14,5 +14,5 @@ there (Some f) e = (f, refl)
 pub returns : goal.returns
 returns c =
     let b = c.args.self.now in
-    let (f, is) = there (find (mark_of c.args.name) (take b.flying b.flights)) (sym (ap is_some c.in_flight.ensures) ∙ c.if-is_none.ensures) in
+    let (f, is) = there (find (mark_of c.args.name) b.flights.items) (sym (ap is_some c.in_flight.ensures) ∙ c.if-is_none.ensures) in
     record { answer = search rules; world = λ d log. let t = c.take_out.ensures d in search rules }
