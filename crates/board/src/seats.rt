@@ -1,8 +1,9 @@
 // The table of the seats.
-ghost use Rattle.std.specs.Prelude.{◌≡◌, ◌<◌, true, [], replicate, slice_index_or, slice_set};
+ghost use Rattle.std.specs.Prelude.{◌≡◌, true, [], replicate, slice_index_or, slice_set};
 ghost use Rattle.machine.specs.declared.types.Seat.TheVariants.{Idle};
 ghost use Rattle.board.specs.Bounds.{TimelyAll, timely as is_timely};
 
+use crate::turns::{HostNumber, Turn};
 use machine::Seat;
 
 // The seats by host and resource. Each of their readings from which a wait is counted is one that a clock can show.
@@ -22,22 +23,27 @@ impl Seats {
         }
     }
 
-    // Puts a seat into its place.
-    pub(crate) fn put(&mut self, host: usize, resource: usize, seat: Seat)
-        requires host { host < 16 }
-        requires resource { resource < 8 }
-        requires timely { is_timely seat ≡ true }
-        ensures { self.new.rows ≡ slice_set self.old.rows host (slice_set (slice_index_or self.old.rows host []) resource seat) }
+    // The seat of a turn.
+    pub(crate) fn at(&self, turn: Turn) -> Seat
+        ensures value { result ≡ slice_index_or (slice_index_or self.now.rows turn.host.number []) turn.resource Idle }
+        ensures timely { is_timely result ≡ true }
     {
-        let place = &mut self.rows[host][resource];
+        self.rows[turn.host.number][turn.resource]
+    }
+
+    // Puts a seat into its place.
+    pub(crate) fn put(&mut self, turn: Turn, seat: Seat)
+        requires { is_timely seat ≡ true }
+        ensures { self.new.rows ≡ slice_set self.old.rows turn.host.number (slice_set (slice_index_or self.old.rows turn.host.number []) turn.resource seat) }
+    {
+        let place = &mut self.rows[turn.host.number][turn.resource];
         *place = seat;
     }
 
     // Every seat of a host becomes idle.
-    pub(crate) fn leave(&mut self, host: usize)
-        requires { host < 16 }
-        ensures { self.new.rows ≡ slice_set self.old.rows host (replicate 8 Idle) }
+    pub(crate) fn leave(&mut self, host: HostNumber)
+        ensures { self.new.rows ≡ slice_set self.old.rows host.number (replicate 8 Idle) }
     {
-        self.rows[host] = [Seat::Idle; 8];
+        self.rows[host.number] = [Seat::Idle; 8];
     }
 }

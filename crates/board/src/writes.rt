@@ -12,7 +12,8 @@ ghost use Rattle.board.specs.Verdicts.{mark_of, raised, verdict, write_to_land};
 use crate::board::Board;
 use crate::flights::place_of;
 use crate::naming::WriteName;
-use disk::{BLOCK_LENGTH, Refusal};
+use crate::refusals::whole_block;
+use disk::Refusal;
 use format::LeaseRecord;
 
 impl Board {
@@ -29,12 +30,8 @@ impl Board {
         ensures answer { result ≡ told (λ f. f.body) (write_to_land (alone self.now) (mark_of name) area.now) }
         ensures long { OnOk result (length area.now ≡ 512) }
     {
-        if area.len() != BLOCK_LENGTH {
-            return Err(Refusal::WrongLength);
-        }
-        if !self.opened {
-            return Err(Refusal::NotOpen);
-        }
+        whole_block(area)?;
+        self.open_for_calls()?;
         self.in_flight(name).ok_or(Refusal::NoSuchWrite)
     }
 
@@ -52,12 +49,8 @@ impl Board {
         ensures answer { (d : DiskModel) (log : List LogEntry) → raised (over d self.old) result ≡ (lose_call (world_over d self.old log) (mark_of name)).answer }
         ensures world { (d : DiskModel) (log : List LogEntry) → world_over d self.new log ≡ (lose_call (world_over d self.old log) (mark_of name)).world }
     {
-        if !self.opened {
-            return Err(Refusal::NotOpen);
-        }
-        if self.in_flight(name).is_none() {
-            return Err(Refusal::NoSuchWrite);
-        }
+        self.open_for_calls()?;
+        self.in_flight(name).ok_or(Refusal::NoSuchWrite)?;
         self.take_out(name);
         Ok(())
     }
@@ -67,15 +60,8 @@ impl Board {
         ensures answer { result ≡ verdict (spoil_tests (alone self.now) resource area.now) }
         ensures long { OnOk result (length area.now ≡ 512) }
     {
-        if area.len() != BLOCK_LENGTH {
-            return Err(Refusal::WrongLength);
-        }
-        if !self.opened {
-            return Err(Refusal::NotOpen);
-        }
-        if resource >= self.settings.resources {
-            return Err(Refusal::NoSuchHostOrResource);
-        }
-        Ok(())
+        whole_block(area)?;
+        self.open_for_calls()?;
+        self.known_resource(resource)
     }
 }

@@ -8,4 +8,4 @@ returns c =
     let b = c.args.self.now in
     let kept = filter-from_retain _ (young b.settings.delay (b.tick.0 + 1)) _ (λ x said f y called. search rules) _ _ c.retain.ensures.filtered in
     let e = kept ∙ sym (younger_kept b.settings.delay (b.tick.0 + 1) b.flights.items) in
-    λ d. search rules
+    search rules
