@@ -1,48 +1,68 @@
 -- Where a search through the writes in flight comes to.
-use Rattle.std.proofs.Common.{◌≡◌, ℕ, zero, suc, ◌+◌, ◌-◌, ◌<◌, ◌≤◌, true, false, List, [], ◌∷◌, ◌++◌, length, get_or, take, drop, Some, None, sym, refl, ap, ◌∙◌, inl, inr, add-one, arith}
-use lib.Seq.{paste}
-use Rattle.std.proofs.lemmas.List.Edits.{take-paste}
-use Rattle.std.proofs.lemmas.List.{drop-take, length-drop, take-take}
-use Rattle.std.proofs.lemmas.Bool.{cases_Bool, cond-true, cond-false}
+use Rattle.std.proofs.Common.{◌≡◌, ℕ, suc, ◌+◌, ◌≤◌, Bool, true, false, cond, not, ltb, List, [], ◌∷◌, ◌++◌, length, get_or, take, Some, None, Option, sym, refl, ap, ◌∙◌, inl, inr, arith, append-nil, take_all, drop_of_length-le}
+use Rattle.std.specs.List.{find as first, position, position_or_len, remove}
+use Rattle.std.specs.Option.{option_map}
+use Rattle.std.proofs.lemmas.Bool.{cases_Bool, cond-true, cond-false, ltb-true, ltb-false}
+use Rattle.std.proofs.lemmas.List.Folds.{find_at}
+use Rattle.std.proofs.lemmas.List.Recursion.{same_from_clauses}
+use Rattle.std.proofs.lemmas.Option.{slice_get-get_or, slice_get_past}
+use Rattle.format.specs.declared.lease.Kind.TheVariants.{Free}
 use Rattle.format.specs.declared.lease.Mark.{Mark}
 use Rattle.machine.specs.declared.types.Flight.{Flight}
 use Rattle.machine.specs.Seats.{same_mark}
 use Rattle.machine.specs.Writes.{find, removed}
-use Rattle.machine.proofs.Clash.{clash}
-use Rattle.board.specs.Flying.{Found, no_flight, without}
 
--- no write has the mark
-pub none_found : (mark : Mark) (fs : List Flight) → ((k : ℕ) → k < length fs → same_mark (get_or fs k no_flight).body.mark mark ≡ false) → find mark fs ≡ None
-none_found mark [] all = refl
-none_found mark (f ∷ fs) all = rw (all zero (omega arith)) (none_found mark fs (λ k l. all (suc k) (omega arith)))
+-- whether a write has the mark
+abbrev pub marked : Mark → Flight → Bool
+marked mark f = same_mark f.body.mark mark
 
--- so none is taken out
-pub none_removed : (mark : Mark) (fs : List Flight) → find mark fs ≡ None → removed mark fs ≡ fs
-none_removed mark [] e = refl
-none_removed mark (f ∷ fs) e = elim (cases_Bool (same_mark f.body.mark mark)) [
-  | inl here ↦ clash (let i = cond-true (same_mark f.body.mark mark) (Some f) (find mark fs) here in cc)
-  | inr other ↦
-      cond-false (same_mark f.body.mark mark) fs (f ∷ removed mark fs) other
-      ∙ ap (λ (gs : List Flight). f ∷ gs) (none_removed mark fs (sym (cond-false (same_mark f.body.mark mark) (Some f) (find mark fs) other) ∙ e))
+-- the write that a mark names is the first that has it
+found : (mark : Mark) (fs : List Flight) → find mark fs ≡ first (marked mark) fs
+found mark = same_from_clauses (find mark) (first (marked mark)) (λ f rest. cond (marked mark f) (Some f) rest) refl (λ f fs. refl) (λ f fs. refl)
+
+-- what is left without that write is what is left without the one at its place
+removed_at : (mark : Mark) (fs : List Flight) → removed mark fs ≡ remove fs (position_or_len (marked mark) fs)
+removed_at mark [] = refl
+removed_at mark (f ∷ fs) = step (marked mark f) (removed_at mark fs)
+  where
+    n : ℕ
+    n = position_or_len (marked mark) fs
+
+    step : (b : Bool) → removed mark fs ≡ remove fs n → cond b fs (f ∷ removed mark fs) ≡ remove (f ∷ fs) (cond (not b) (1 + n) 0)
+    step true e = refl
+    step false e = let next : 1 + n ≡ suc n = omega arith in rw next (ap (λ (gs : List Flight). f ∷ gs) e)
+
+-- a list without the element at a place, if there is one
+abbrev pub without : List Flight → Option ℕ → List Flight
+without fs None = fs
+without fs (Some at) = remove fs at
+
+-- what an index past the end would read
+abbrev pub no_flight : Flight
+no_flight = record { body = record { kind = Free; resource = 0; mark = record { owner = 0; generation = 0; stamp = 0 }; term = 0 }; issued = record { 0 = 0 } }
+
+-- the first write that has a mark stands at this place
+pub record Placed (mark : Mark) (fs : List Flight) (at : Option ℕ) : Type 0 where
+  pub is : find mark fs ≡ option_map (λ i. get_or fs i no_flight) at
+  pub rest : removed mark fs ≡ without fs at
+
+pub placed : (mark : Mark) (fs : List Flight) (at : Option ℕ) → at ≡ position (marked mark) fs → Placed mark fs at
+placed mark fs at e = elim (cases_Bool (ltb n (length fs))) [
+  | inl within ↦
+      let s = e ∙ cond-true (ltb n (length fs)) (Some n) None within in
+      record {
+        is = found mark fs ∙ find_at (marked mark) fs ∙ slice_get-get_or fs n no_flight (ltb-true n (length fs) within) ∙ sym (ap (option_map (λ i. get_or fs i no_flight)) s);
+        rest = removed_at mark fs ∙ sym (ap (without fs) s);
+      }
+  | inr past ↦
+      let l : length fs ≤ n = ltb-false n (length fs) past in
+      let beyond : length fs ≤ suc n = omega arith in
+      let s = e ∙ cond-false (ltb n (length fs)) (Some n) None past in
+      record {
+        is = found mark fs ∙ find_at (marked mark) fs ∙ slice_get_past fs n l ∙ sym (ap (option_map (λ i. get_or fs i no_flight)) s);
+        rest = removed_at mark fs ∙ ap (λ (gs : List Flight). take n fs ++ gs) (drop_of_length-le fs beyond) ∙ append-nil (take n fs) ∙ take_all n fs l ∙ sym (ap (without fs) s);
+      }
 ]
-
--- the first write with the mark
-pub found_at : (mark : Mark) (fs : List Flight) (i : ℕ) → i < length fs → ((k : ℕ) → k < i → same_mark (get_or fs k no_flight).body.mark mark ≡ false) → same_mark (get_or fs i no_flight).body.mark mark ≡ true → Found mark fs i
-found_at mark [] i lt before here = absurd (omega arith)
-found_at mark (f ∷ fs) zero lt before here = record { is = rw here; rest = rw here }
-found_at mark (f ∷ fs) (suc i) lt before here =
-    let n = found_at mark fs i (omega arith) (λ k l. before (suc k) (omega arith)) here in
-    let first = before zero (omega arith) in
-    record { is = rw first n.is; rest = rw first (ap (λ (gs : List Flight). f ∷ gs) n.rest) }
-
--- what is left once the writes behind a place have moved up
-pub closed : (fs : List Flight) (flying at : ℕ) → at < flying → flying ≤ length fs → take (flying - 1) (paste fs at (drop (at + 1) fs) (flying - (at + 1))) ≡ without (take flying fs) at
-closed fs flying at lt long =
-    let n = flying - (at + 1) in
-    let a : flying - 1 ≡ at + n = omega arith in
-    let b : flying ≡ at + 1 + n = omega arith in
-    let c = length-drop (at + 1) fs in
-    ap (λ (k : ℕ). take k (paste fs at (drop (at + 1) fs) n)) a
-    ∙ take-paste fs at (drop (at + 1) fs) n (omega arith) (omega arith)
-    ∙ ap (λ (gs : List Flight). take at fs ++ gs) (sym (drop-take (at + 1) n fs) ∙ ap (λ (k : ℕ). drop (at + 1) (take k fs)) (sym b) ∙ ap (λ (k : ℕ). drop k (take flying fs)) (add-one at))
-    ∙ ap (λ (gs : List Flight). gs ++ drop (suc at) (take flying fs)) (sym (take-take at flying fs (omega arith)))
+  where
+    n : ℕ
+    n = position_or_len (marked mark) fs

@@ -1,5 +1,4 @@
 pub mod Kept
-pub mod Times
 pub mod Finding
 pub mod Youth
 pub mod Verdicts

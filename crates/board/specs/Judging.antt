@@ -23,16 +23,16 @@ passed r = told (λ _. tt) r
 
 -- the claim
 abbrev pub claim_of : ClaimToCheck → Claim
-claim_of x = record { mark = x.mark; term = x.term; issued = x.issued.0 }
+claim_of x = record { mark = x.mark; term = x.term; issued = x.issued.reading.0 }
 
 -- the renewal
 abbrev pub renewal_of : RenewalToConfirm → Renewal
-renewal_of x = record { term = x.term; pending = x.pending }
+renewal_of x = record { term = x.term; pending = record { mark = x.mark; issued = x.issued.reading } }
 
 -- a claim is judged by a record, if the log has a place for it
 abbrev pub judged_claim : ClaimToCheck → World → LeaseRecord → Outcome Checked
-judged_claim x w seen = unless w (log_test w ∷ []) (checked x.host x.resource (claim_of x) w seen)
+judged_claim x w seen = unless w (log_test w ∷ []) (checked x.turn.host.number x.turn.resource (claim_of x) w seen)
 
 -- so is a renewal
 abbrev pub judged_renewal : RenewalToConfirm → World → LeaseRecord → Outcome Confirmed
-judged_renewal x w seen = unless w (log_test w ∷ []) (confirmed x.host x.resource (renewal_of x) w seen)
+judged_renewal x w seen = unless w (log_test w ∷ []) (confirmed x.turn.host.number x.turn.resource (renewal_of x) w seen)

@@ -2,4 +2,3 @@ pub mod Bounds
 pub mod Verdicts
 pub mod Over
 pub mod Judging
-pub mod Flying

@@ -1,5 +1,5 @@
 -- A board as a room of the rules.
-use Rattle.std.specs.Prelude.{List, [], take}
+use Rattle.std.specs.Prelude.{List, []}
 use Rattle.disk.specs.Model.{DiskModel}
 use Rattle.format.specs.declared.events.LogEntry.{LogEntry}
 use Rattle.machine.specs.Room.{Room, World}
@@ -14,8 +14,8 @@ over d b =
       opened = b.opened;
       tick = b.tick.0;
       hosts = b.hosts;
-      seats = b.seats;
-      flights = take b.flying b.flights;
+      seats = b.seats.rows;
+      flights = b.flights.items;
       logged = b.logged;
     }
 

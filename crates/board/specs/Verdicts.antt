@@ -95,10 +95,6 @@ renewal_to_confirm w h r area =
     and_then (ok_or x.pending WrongSeat) (λ p.
     and_then (verdict (confirm_tests w h x.until)) (λ _. Ok (record { term = x.term; pending = p })))))
 
--- there is room in the log, the lease has not run out, and a write may be issued
-abbrev pub release_tests : World → ℕ → ℤ → List (Bool × Refusal)
-release_tests w h until = log_test w ∷ renew_tests w.room h until
-
 -- the claim that a check is about, unless the call refuses before it reads the block
 abbrev pub claim_to_check : World → ℕ → ℕ → List ℕ → Result Claim Refusal
 claim_to_check w h r area =
@@ -114,6 +110,10 @@ open_tests m area = area_test area ∷ (m.opened, NotOpen) ∷ []
 -- the mark that a caller's numbers tell
 abbrev pub mark_of : WriteName → Mark
 mark_of x = record { owner = x.owner; generation = x.generation; stamp = x.stamp }
+
+-- the name of the write with this mark
+abbrev pub name_of : Mark → WriteName
+name_of x = record { owner = x.owner; generation = x.generation; stamp = x.stamp }
 
 -- the area is a block long, and the room is open
 abbrev pub land_tests : Room → List ℕ → List (Bool × Refusal)

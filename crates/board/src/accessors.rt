@@ -34,9 +34,7 @@ impl Board {
     pub fn offset(&self, host: usize) -> Option<i32>
         ensures { result ≡ (if nat_lt host (alone self.now).settings.hosts then Some (host_at (alone self.now) host).offset else None) }
     {
-        if host >= self.settings.hosts {
-            return None;
-        }
-        Some(self.hosts[host].offset)
+        let host = self.known_host(host).ok()?;
+        Some(self.hosts[host.number].offset)
     }
 }

@@ -1,41 +1,31 @@
 // One thing of a board changed, the rest left as it is.
-ghost use Rattle.std.specs.Prelude.{◌≡◌, ◌<◌, ◌≤◌, true, length, unsigned_abs};
-ghost use Rattle.disk.specs.Model.{DiskModel};
+ghost use Rattle.std.specs.Prelude.{◌≡◌, ◌<◌, ◌≤◌, true, length, IfOk, OnErr, OnOk, unsigned_abs};
 ghost use Rattle.format.specs.Offsets.{near as is_near};
-ghost use Rattle.machine.specs.Room.{host_at, noted, with_seat};
-ghost use Rattle.machine.specs.Steps.{issued as issued_by, lease_entry, next_mark, plain_entry};
+ghost use Rattle.machine.specs.Room.{host_at, noted};
+ghost use Rattle.machine.specs.Steps.{issue_tests, issued as issued_by, lease_entry, next_mark, plain_entry};
 ghost use Rattle.machine.specs.Setup.{with_offset};
 ghost use Rattle.machine.specs.Hosts.{brought_up, taken_down};
-ghost use Rattle.board.specs.Bounds.{timely as is_timely};
-ghost use Rattle.board.specs.Over.{alone, over, world_over};
+ghost use Rattle.board.specs.Judging.{passed};
+ghost use Rattle.board.specs.Over.{alone, alone_with};
+ghost use Rattle.board.specs.Verdicts.{renew_tests, verdict};
 
 use crate::board::Board;
+use crate::turns::{HostNumber, Turn};
+use disk::Refusal;
 use format::{Event, Kind, LeaseRecord, LogEntry, Mark, Reading, Tick};
-use machine::{Flight, Host, Seat};
+use machine::{Flight, Host};
 
 impl Board {
-    // Puts a seat into its place in the table.
-    pub(crate) fn put_seat(&mut self, host: usize, resource: usize, seat: Seat)
-        requires host { host < 16 }
-        requires resource { resource < 8 }
-        requires timely { is_timely seat ≡ true }
-        ensures logged { self.new.logged ≡ self.old.logged }
-        ensures room { (d : DiskModel) → over d self.new ≡ with_seat (over d self.old) host resource seat }
-    {
-        let place = &mut self.seats[host][resource];
-        *place = seat;
-    }
-
     // Puts a record in flight under the host's next stamp, and answers its mark.
-    pub(crate) fn issue(&mut self, host: usize, resource: usize, kind: Kind, term: u32) -> Mark
-        requires host { host < 16 }
-        requires resource { resource < 8 }
-        requires spare { self.old.flying < 32 }
-        requires stamp { (host_at (alone self.old) host).stamp < 9999 }
-        ensures mark { result ≡ next_mark (alone self.old) host }
+    pub(crate) fn issue(&mut self, turn: Turn, kind: Kind, term: u32) -> Result<Mark, Refusal>
+        ensures answer { passed result ≡ verdict (issue_tests (alone self.old) turn.host.number) }
+        ensures mark { IfOk result (λ x. x ≡ next_mark (alone self.old) turn.host.number) }
+        ensures kept { OnErr result (self.new ≡ self.old) }
         ensures logged { self.new.logged ≡ self.old.logged }
-        ensures room { (d : DiskModel) → over d self.new ≡ issued_by (over d self.old) host kind resource term }
+        ensures room { OnOk result (alone self.new ≡ issued_by (alone self.old) turn.host.number kind turn.resource term) }
     {
+        self.issuable(turn.host)?;
+        let host = turn.host.number;
         let Host {
             generation,
             stamp,
@@ -48,60 +38,67 @@ impl Board {
         };
         let body = LeaseRecord {
             kind,
-            resource: resource as u8,
+            resource: turn.resource as u8,
             mark,
             term,
         };
         self.hosts[host].stamp = stamp + 1;
-        self.flights[self.flying] = Flight {
+        self.flights.push(Flight {
             body,
             issued: self.tick,
-        };
-        self.flying += 1;
-        mark
+        });
+        Ok(mark)
+    }
+
+    // Does so for a holder, unless its lease has run out.
+    pub(crate) fn issue_in_time(
+        &mut self,
+        turn: Turn,
+        until: Reading,
+        kind: Kind,
+        term: u32,
+    ) -> Result<Mark, Refusal>
+        ensures answer { passed result ≡ verdict (renew_tests (alone self.old) turn.host.number until.0) }
+        ensures mark { IfOk result (λ x. x ≡ next_mark (alone self.old) turn.host.number) }
+        ensures kept { OnErr result (self.new ≡ self.old) }
+        ensures logged { self.new.logged ≡ self.old.logged }
+        ensures room { OnOk result (alone self.new ≡ issued_by (alone self.old) turn.host.number kind turn.resource term) }
+    {
+        self.in_time(turn.host, until)?;
+        self.issue(turn, kind, term)
     }
 
     // The entry of a lease that lasts until a reading of its host, told as a tick.
     pub(crate) fn lease_entry(
         &self,
         event: Event,
-        host: usize,
-        resource: usize,
+        turn: Turn,
         term: u32,
         until: Reading,
     ) -> LogEntry
-        requires host { host < 16 }
-        requires resource { resource < 8 }
-        requires near { unsigned_abs until.0 ≤ 87459999 }
-        ensures { result ≡ lease_entry (alone self.now) event host resource term until.0 }
+        requires { unsigned_abs until.0 ≤ 87459999 }
+        ensures { result ≡ lease_entry (alone self.now) event turn.host.number turn.resource term until.0 }
     {
+        let host = turn.host.number;
         LogEntry {
             tick: self.tick,
             event,
             host: host as u8,
-            resource: resource as u8,
+            resource: turn.resource as u8,
             term,
             until: until.tick(self.hosts[host].offset),
         }
     }
 
     // The entry of an event without an end.
-    pub(crate) fn plain_entry(
-        &self,
-        event: Event,
-        host: usize,
-        resource: usize,
-        term: u32,
-    ) -> LogEntry
-        requires host { host < 16 }
-        requires resource { resource < 8 }
-        ensures { result ≡ plain_entry (alone self.now) event host resource term }
+    pub(crate) fn plain_entry(&self, event: Event, turn: Turn, term: u32) -> LogEntry
+        ensures { result ≡ plain_entry (alone self.now) event turn.host.number turn.resource term }
     {
         LogEntry {
             tick: self.tick,
             event,
-            host: host as u8,
-            resource: resource as u8,
+            host: turn.host.number as u8,
+            resource: turn.resource as u8,
             term,
             until: Tick(0),
         }
@@ -110,7 +107,7 @@ impl Board {
     // Writes an entry at the next place of the log.
     pub(crate) fn note(&mut self, log: &mut [LogEntry], entry: LogEntry)
         requires { self.old.logged < length log.old }
-        ensures { (d : DiskModel) → world_over d self.new log.new ≡ noted (world_over d self.old log.old) entry }
+        ensures { alone_with self.new log.new ≡ noted (alone_with self.old log.old) entry }
     {
         let place = &mut log[self.logged];
         *place = entry;
@@ -118,23 +115,21 @@ impl Board {
     }
 
     // The host is down, and its seats are idle.
-    pub(crate) fn take_down(&mut self, host: usize)
-        requires { host < 16 }
+    pub(crate) fn take_down(&mut self, host: HostNumber)
         ensures logged { self.new.logged ≡ self.old.logged }
-        ensures room { (d : DiskModel) → over d self.new ≡ taken_down (over d self.old) host }
+        ensures room { alone self.new ≡ taken_down (alone self.old) host.number }
     {
-        self.hosts[host].up = false;
-        self.seats[host] = [Seat::Idle; 8];
+        self.hosts[host.number].up = false;
+        self.seats.leave(host);
     }
 
     // The host is up in its next generation, with no stamp used.
-    pub(crate) fn bring_up(&mut self, host: usize)
-        requires host { host < 16 }
-        requires generation { (host_at (alone self.old) host).generation < 65535 }
-        ensures { (d : DiskModel) → over d self.new ≡ brought_up (over d self.old) host }
+    pub(crate) fn bring_up(&mut self, host: HostNumber)
+        requires { (host_at (alone self.old) host.number).generation < 65535 }
+        ensures { alone self.new ≡ brought_up (alone self.old) host.number }
     {
-        let before = self.hosts[host];
-        self.hosts[host] = Host {
+        let before = self.hosts[host.number];
+        self.hosts[host.number] = Host {
             offset: before.offset,
             up: true,
             generation: before.generation + 1,
@@ -143,11 +138,10 @@ impl Board {
     }
 
     // The clock of the host is off by so much.
-    pub(crate) fn set_offset(&mut self, host: usize, offset: i32)
-        requires host { host < 16 }
-        requires near { is_near offset ≡ true }
-        ensures { (d : DiskModel) → over d self.new ≡ with_offset (over d self.old) host offset }
+    pub(crate) fn set_offset(&mut self, host: HostNumber, offset: i32)
+        requires { is_near offset ≡ true }
+        ensures { alone self.new ≡ with_offset (alone self.old) host.number offset }
     {
-        self.hosts[host].offset = offset;
+        self.hosts[host.number].offset = offset;
     }
 }

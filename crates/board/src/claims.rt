@@ -7,8 +7,7 @@ ghost use Rattle.board.specs.Over.{alone, alone_with, over, world_over};
 ghost use Rattle.board.specs.Verdicts.{claim_to_check, raised, verdict};
 
 use crate::board::Board;
-use crate::clock::later;
-use crate::compare::are_same_records;
+use crate::clock::ShownReading;
 use crate::turns::{ClaimToCheck, Turn};
 use disk::Refusal;
 use format::{Event, Kind, LeaseRecord, LogEntry};
@@ -18,66 +17,59 @@ impl Board {
     // The turn of a host that tries for a resource, unless the call refuses before it reads the block.
     pub fn turn_to_try(&self, host: usize, resource: usize, area: &[u8]) -> Result<Turn, Refusal>
         ensures answer { passed result ≡ verdict (try_tests (alone self.now) host resource area.now) }
-        ensures whose { IfOk result (λ x. (x.host ≡ host) × (x.resource ≡ resource)) }
+        ensures whose { IfOk result (λ x. (x.host.number ≡ host) × (x.resource ≡ resource)) }
         ensures long { OnOk result (length area.now ≡ 512) }
     {
-        self.admits(host, resource, area)?;
-        match self.seats[host][resource] {
-            Seat::Idle => Ok(Turn { host, resource }),
-            Seat::Watching { .. } => Ok(Turn { host, resource }),
+        let turn = self.admits(host, resource, area)?;
+        match self.seats.at(turn) {
+            Seat::Idle | Seat::Watching { .. } => Ok(turn),
             _ => Err(Refusal::WrongSeat),
         }
     }
 
     // Issues an owned record of the next term; the seat is claimed.
-    fn claim(&mut self, host: usize, resource: usize, seen: LeaseRecord) -> Result<Tried, Refusal>
-        requires host { host < 16 }
-        requires resource { resource < 8 }
-        ensures answer { (d : DiskModel) (log : List LogEntry) → raised (over d self.old) result ≡ (claiming (world_over d self.old log) host resource seen).answer }
-        ensures world { (d : DiskModel) (log : List LogEntry) → world_over d self.new log ≡ (claiming (world_over d self.old log) host resource seen).world }
+    fn claim(&mut self, turn: Turn, seen: LeaseRecord) -> Result<Tried, Refusal>
+        ensures answer { (d : DiskModel) (log : List LogEntry) → raised (over d self.old) result ≡ (claiming (world_over d self.old log) turn.host.number turn.resource seen).answer }
+        ensures world { (d : DiskModel) (log : List LogEntry) → world_over d self.new log ≡ (claiming (world_over d self.old log) turn.host.number turn.resource seen).world }
     {
-        self.claimable(host, seen)?;
-        let issued = self.reading(host);
+        self.claimable(turn.host, seen)?;
+        let issued = self.shown(turn.host).reading;
         let term = seen.term + 1;
-        let mark = self.issue(host, resource, Kind::Owned, term);
-        let claimed = Seat::Claimed { mark, term, issued };
-        self.put_seat(host, resource, claimed);
+        let mark = self.issue(turn, Kind::Owned, term)?;
+        self.seats.put(turn, Seat::Claimed { mark, term, issued });
         Ok(Tried::Claimed(mark))
     }
 
     // The seat watches a record from now on.
-    fn watch_record(&mut self, host: usize, resource: usize, seen: LeaseRecord) -> Tried
-        requires host { host < 16 }
-        requires resource { resource < 8 }
-        ensures answer { (d : DiskModel) (log : List LogEntry) → Ok result ≡ (watching_from (world_over d self.old log) host resource seen).answer }
-        ensures world { (d : DiskModel) (log : List LogEntry) → world_over d self.new log ≡ (watching_from (world_over d self.old log) host resource seen).world }
+    fn watch_record(&mut self, turn: Turn, seen: LeaseRecord) -> Tried
+        ensures answer { (d : DiskModel) (log : List LogEntry) → Ok result ≡ (watching_from (world_over d self.old log) turn.host.number turn.resource seen).answer }
+        ensures world { (d : DiskModel) (log : List LogEntry) → world_over d self.new log ≡ (watching_from (world_over d self.old log) turn.host.number turn.resource seen).world }
     {
-        let since = self.reading(host);
-        self.put_seat(host, resource, Seat::Watching { seen, since });
+        let since = self.shown(turn.host).reading;
+        self.seats.put(turn, Seat::Watching { seen, since });
         Tried::Watching
     }
 
     // Claims what is free or has stood still for a lease, and watches anything else.
     pub fn judge_try(&mut self, turn: Turn, seen: LeaseRecord) -> Result<Tried, Refusal>
-        ensures answer { (d : DiskModel) (log : List LogEntry) → raised (over d self.old) result ≡ (tried_of turn.host turn.resource (world_over d self.old log) seen).answer }
-        ensures world { (d : DiskModel) (log : List LogEntry) → world_over d self.new log ≡ (tried_of turn.host turn.resource (world_over d self.old log) seen).world }
+        ensures answer { (d : DiskModel) (log : List LogEntry) → raised (over d self.old) result ≡ (tried_of turn.host.number turn.resource (world_over d self.old log) seen).answer }
+        ensures world { (d : DiskModel) (log : List LogEntry) → world_over d self.new log ≡ (tried_of turn.host.number turn.resource (world_over d self.old log) seen).world }
     {
-        let Turn { host, resource } = turn;
-        if let Kind::Free = seen.kind {
-            return self.claim(host, resource, seen);
+        if seen.kind == Kind::Free {
+            return self.claim(turn, seen);
         }
         let Seat::Watching {
             seen: watched,
             since,
-        } = self.seats[host][resource]
+        } = self.seats.at(turn)
         else {
-            return Ok(self.watch_record(host, resource, seen));
+            return Ok(self.watch_record(turn, seen));
         };
-        if !are_same_records(seen, watched) {
-            return Ok(self.watch_record(host, resource, seen));
+        if seen != watched {
+            return Ok(self.watch_record(turn, seen));
         }
-        self.still(host, since)?;
-        self.claim(host, resource, seen)
+        self.still(turn.host, ShownReading { reading: since })?;
+        self.claim(turn, seen)
     }
 
     // The claim that is to be checked, unless the call refuses before it reads the block.
@@ -89,18 +81,18 @@ impl Board {
         area: &[u8],
     ) -> Result<ClaimToCheck, Refusal>
         ensures answer { told claim_of result ≡ claim_to_check (alone_with self.now log.now) host resource area.now }
-        ensures whose { IfOk result (λ x. (x.host ≡ host) × (x.resource ≡ resource)) }
+        ensures whose { IfOk result (λ x. (x.turn.host.number ≡ host) × (x.turn.resource ≡ resource)) }
         ensures long { OnOk result (length area.now ≡ 512) }
         ensures place { OnOk result (self.now.logged < length log.now) }
     {
-        self.admits(host, resource, area)?;
-        let Seat::Claimed { mark, term, issued } = self.seats[host][resource] else {
+        let turn = self.admits(host, resource, area)?;
+        let Seat::Claimed { mark, term, issued } = self.seats.at(turn) else {
             return Err(Refusal::WrongSeat);
         };
-        self.checkable(host, issued, log)?;
+        let issued = ShownReading { reading: issued };
+        self.checkable(turn.host, issued, log)?;
         Ok(ClaimToCheck {
-            host,
-            resource,
+            turn,
             mark,
             term,
             issued,
@@ -110,24 +102,23 @@ impl Board {
     // The claim becomes a lease, and the log says so.
     fn grant(&mut self, claim: ClaimToCheck, log: &mut [LogEntry]) -> Checked
         requires { self.old.logged < length log.old }
-        ensures answer { (d : DiskModel) → Ok result ≡ (granted (world_over d self.old log.old) claim.host claim.resource (claim_of claim)).answer }
-        ensures world { (d : DiskModel) → world_over d self.new log.new ≡ (granted (world_over d self.old log.old) claim.host claim.resource (claim_of claim)).world }
+        ensures answer { Ok result ≡ (granted (alone_with self.old log.old) claim.turn.host.number claim.turn.resource (claim_of claim)).answer }
+        ensures world { alone_with self.new log.new ≡ (granted (alone_with self.old log.old) claim.turn.host.number claim.turn.resource (claim_of claim)).world }
     {
         let ClaimToCheck {
-            host,
-            resource,
+            turn,
             term,
             issued,
             ..
         } = claim;
-        let until = later(issued, self.settings.lease);
-        let entry = self.lease_entry(Event::Granted, host, resource, term, until);
+        let until = issued.later(self.settings.lease);
+        let entry = self.lease_entry(Event::Granted, turn, term, until);
         let held = Seat::Held {
             term,
             until,
             pending: None,
         };
-        self.put_seat(host, resource, held);
+        self.seats.put(turn, held);
         self.note(log, entry);
         Checked::Granted { term, until }
     }
@@ -145,12 +136,12 @@ impl Board {
         self.loggable(log)?;
         let claimed = LeaseRecord {
             kind: Kind::Owned,
-            resource: claim.resource as u8,
+            resource: claim.turn.resource as u8,
             mark: claim.mark,
             term: claim.term,
         };
-        if !are_same_records(seen, claimed) {
-            self.put_seat(claim.host, claim.resource, Seat::Idle);
+        if seen != claimed {
+            self.seats.put(claim.turn, Seat::Idle);
             return Ok(Checked::Stolen);
         }
         Ok(self.grant(claim, log))

@@ -5,8 +5,10 @@ ghost use Rattle.machine.specs.Room.{founded};
 ghost use Rattle.board.specs.Over.{over};
 
 use crate::board::Board;
-use format::{Kind, LeaseRecord, Mark, Tick};
-use machine::{Flight, Host, Seat, Settings};
+use crate::seats::Seats;
+use arrayvec::ArrayVec;
+use format::Tick;
+use machine::{Host, Settings};
 
 // A host that has done nothing yet.
 const NEW_HOST: Host = Host {
@@ -14,21 +16,6 @@ const NEW_HOST: Host = Host {
     up: true,
     generation: 1,
     stamp: 0,
-};
-
-// What stands in the table where no write is in flight.
-const NO_FLIGHT: Flight = Flight {
-    body: LeaseRecord {
-        kind: Kind::Free,
-        resource: 0,
-        mark: Mark {
-            owner: 0,
-            generation: 0,
-            stamp: 0,
-        },
-        term: 0,
-    },
-    issued: Tick(0),
 };
 
 impl Board {
@@ -41,9 +28,8 @@ impl Board {
             opened: false,
             tick: Tick(0),
             hosts: [NEW_HOST; 16],
-            seats: [[Seat::Idle; 8]; 16],
-            flights: [NO_FLIGHT; 32],
-            flying: 0,
+            seats: Seats::new(),
+            flights: ArrayVec::new(),
             logged: 0,
         }
     }

@@ -7,9 +7,8 @@ ghost use Rattle.board.specs.Over.{alone, alone_with, over, world_over};
 ghost use Rattle.board.specs.Verdicts.{extended, raised, renewal_to_confirm, term_to_sign};
 
 use crate::board::Board;
-use crate::clock::later;
-use crate::compare::are_same_marks;
-use crate::turns::RenewalToConfirm;
+use crate::clock::ShownReading;
+use crate::turns::{HostNumber, RenewalToConfirm};
 use disk::Refusal;
 use format::{Event, Kind, LeaseRecord, LogEntry, Mark};
 use machine::{Confirmed, Pending, Seat};
@@ -20,20 +19,19 @@ impl Board {
         ensures answer { (d : DiskModel) (log : List LogEntry) → raised (over d self.old) result ≡ (renew_call (world_over d self.old log) host resource).answer }
         ensures world { (d : DiskModel) (log : List LogEntry) → world_over d self.new log ≡ (renew_call (world_over d self.old log) host resource).world }
     {
-        self.standing(host, resource)?;
-        let Seat::Held { term, until, .. } = self.seats[host][resource] else {
+        let turn = self.standing(host, resource)?;
+        let Seat::Held { term, until, .. } = self.seats.at(turn) else {
             return Err(Refusal::WrongSeat);
         };
-        self.renewable(host, until)?;
-        let issued = self.reading(host);
-        let mark = self.issue(host, resource, Kind::Owned, term);
+        let issued = self.shown(turn.host).reading;
+        let mark = self.issue_in_time(turn, until, Kind::Owned, term)?;
         let pending = Some(Pending { mark, issued });
         let renewed = Seat::Held {
             term,
             until,
             pending,
         };
-        self.put_seat(host, resource, renewed);
+        self.seats.put(turn, renewed);
         Ok(mark)
     }
 
@@ -46,65 +44,62 @@ impl Board {
         area: &[u8],
     ) -> Result<RenewalToConfirm, Refusal>
         ensures answer { told renewal_of result ≡ renewal_to_confirm (alone_with self.now log.now) host resource area.now }
-        ensures whose { IfOk result (λ x. (x.host ≡ host) × (x.resource ≡ resource)) }
+        ensures whose { IfOk result (λ x. (x.turn.host.number ≡ host) × (x.turn.resource ≡ resource)) }
         ensures long { OnOk result (length area.now ≡ 512) }
         ensures place { OnOk result (self.now.logged < length log.now) }
     {
-        self.admits(host, resource, area)?;
+        let turn = self.admits(host, resource, area)?;
         let Seat::Held {
             term,
             until,
             pending,
-        } = self.seats[host][resource]
+        } = self.seats.at(turn)
         else {
             return Err(Refusal::WrongSeat);
         };
         let Some(pending) = pending else {
             return Err(Refusal::WrongSeat);
         };
-        self.confirmable(host, until, log)?;
+        self.confirmable(turn.host, until, log)?;
         Ok(RenewalToConfirm {
-            host,
-            resource,
+            turn,
             term,
-            pending,
+            mark: pending.mark,
+            issued: ShownReading {
+                reading: pending.issued,
+            },
         })
     }
 
     // The lease ends later, nothing is pending, and the log says so.
     fn extend(&mut self, renewal: RenewalToConfirm, log: &mut [LogEntry])
         requires { self.old.logged < length log.old }
-        ensures { (d : DiskModel) → world_over d self.new log.new ≡ (extended (world_over d self.old log.old) renewal.host renewal.resource (renewal_of renewal)).world }
+        ensures { alone_with self.new log.new ≡ (extended (alone_with self.old log.old) renewal.turn.host.number renewal.turn.resource (renewal_of renewal)).world }
     {
         let RenewalToConfirm {
-            host,
-            resource,
+            turn,
             term,
-            pending,
+            issued,
+            ..
         } = renewal;
-        let until = later(pending.issued, self.settings.lease);
-        let entry = self.lease_entry(Event::Renewed, host, resource, term, until);
+        let until = issued.later(self.settings.lease);
+        let entry = self.lease_entry(Event::Renewed, turn, term, until);
         let longer = Seat::Held {
             term,
             until,
             pending: None,
         };
-        self.put_seat(host, resource, longer);
+        self.seats.put(turn, longer);
         self.note(log, entry);
     }
 
     // Whether a record is one of this host's, in its present generation.
-    fn is_own(&self, host: usize, seen: LeaseRecord) -> bool
-        requires { host < 16 }
-        ensures { result ≡ is_own (alone self.now) host seen }
+    fn is_own(&self, host: HostNumber, seen: LeaseRecord) -> bool
+        ensures { result ≡ is_own (alone self.now) host.number seen }
     {
-        match seen.kind {
-            Kind::Free => false,
-            Kind::Owned => {
-                usize::from(seen.mark.owner) == host
-                    && seen.mark.generation == self.hosts[host].generation
-            }
-        }
+        seen.kind == Kind::Owned
+            && usize::from(seen.mark.owner) == host.number
+            && seen.mark.generation == self.hosts[host.number].generation
     }
 
     // Extends the lease if the record has the pending mark, refuses if it is an older one of the host's, and gives the
@@ -119,14 +114,14 @@ impl Board {
         ensures world { (d : DiskModel) → world_over d self.new log.new ≡ (judged_renewal renewal (world_over d self.old log.old) seen).world }
     {
         self.loggable(log)?;
-        if are_same_marks(seen.mark, renewal.pending.mark) {
+        if seen.mark == renewal.mark {
             self.extend(renewal, log);
             return Ok(Confirmed::Renewed);
         }
-        if self.is_own(renewal.host, seen) {
+        if self.is_own(renewal.turn.host, seen) {
             return Err(Refusal::NotLanded);
         }
-        self.put_seat(renewal.host, renewal.resource, Seat::Idle);
+        self.seats.put(renewal.turn, Seat::Idle);
         Ok(Confirmed::Stolen)
     }
 
@@ -140,14 +135,14 @@ impl Board {
         ensures answer { (d : DiskModel) → raised (over d self.old) result ≡ (release_call (world_over d self.old log.old) host resource).answer }
         ensures world { (d : DiskModel) → world_over d self.new log.new ≡ (release_call (world_over d self.old log.old) host resource).world }
     {
-        self.standing(host, resource)?;
-        let Seat::Held { term, until, .. } = self.seats[host][resource] else {
+        let turn = self.standing(host, resource)?;
+        let Seat::Held { term, until, .. } = self.seats.at(turn) else {
             return Err(Refusal::WrongSeat);
         };
-        self.releasable(host, until, log)?;
-        let entry = self.plain_entry(Event::Released, host, resource, term);
-        let mark = self.issue(host, resource, Kind::Free, term);
-        self.put_seat(host, resource, Seat::Idle);
+        self.loggable(log)?;
+        let entry = self.plain_entry(Event::Released, turn, term);
+        let mark = self.issue_in_time(turn, until, Kind::Free, term)?;
+        self.seats.put(turn, Seat::Idle);
         self.note(log, entry);
         Ok(mark)
     }
@@ -162,18 +157,19 @@ impl Board {
         ensures answer { (d : DiskModel) → raised (over d self.old) result ≡ (watch_call (world_over d self.old log.old) host resource).answer }
         ensures world { (d : DiskModel) → world_over d self.new log.new ≡ (watch_call (world_over d self.old log.old) host resource).world }
     {
-        self.standing(host, resource)?;
-        match self.seats[host][resource] {
+        let turn = self.standing(host, resource)?;
+        match self.seats.at(turn) {
             Seat::Held { term, until, .. } => {
-                self.ended(host, until, log)?;
-                let entry = self.plain_entry(Event::Expired, host, resource, term);
-                self.put_seat(host, resource, Seat::Idle);
+                self.ended(turn.host, until, log)?;
+                let entry = self.plain_entry(Event::Expired, turn, term);
+                self.seats.put(turn, Seat::Idle);
                 self.note(log, entry);
             }
             Seat::Claimed { issued, .. } => {
-                let end = later(issued, self.settings.lease);
-                self.ended(host, end, log)?;
-                self.put_seat(host, resource, Seat::Idle);
+                let issued = ShownReading { reading: issued };
+                let end = issued.later(self.settings.lease);
+                self.ended(turn.host, end, log)?;
+                self.seats.put(turn, Seat::Idle);
             }
             _ => return Err(Refusal::WrongSeat),
         }
@@ -184,11 +180,11 @@ impl Board {
     pub fn sign(&self, host: usize, resource: usize) -> Result<u32, Refusal>
         ensures { result ≡ term_to_sign (alone self.now) host resource }
     {
-        self.standing(host, resource)?;
-        let Seat::Held { term, until, .. } = self.seats[host][resource] else {
+        let turn = self.standing(host, resource)?;
+        let Seat::Held { term, until, .. } = self.seats.at(turn) else {
             return Err(Refusal::WrongSeat);
         };
-        self.in_time(host, until)?;
+        self.in_time(turn.host, until)?;
         Ok(term)
     }
 }

@@ -1,12 +1,14 @@
 // Crash and restart.
-ghost use Rattle.std.specs.Prelude.{◌≡◌, ◌<◌, List, length, OnOk};
+ghost use Rattle.std.specs.Prelude.{◌≡◌, ◌<◌, List, length, IfOk, OnOk};
 ghost use Rattle.disk.specs.Model.{DiskModel};
 ghost use Rattle.machine.specs.Room.{host_at};
 ghost use Rattle.machine.specs.Hosts.{crash_call, crash_tests, restart_call, restart_tests};
+ghost use Rattle.board.specs.Judging.{passed};
 ghost use Rattle.board.specs.Over.{alone, alone_with, over, world_over};
 ghost use Rattle.board.specs.Verdicts.{raised, verdict};
 
 use crate::board::Board;
+use crate::turns::{HostNumber, Turn};
 use disk::Refusal;
 use format::{Event, LogEntry};
 use machine::Host;
@@ -16,20 +18,16 @@ const LAST_GENERATION: u16 = 65535;
 
 impl Board {
     // The room is open, the host is there and up, and the log has a place left.
-    fn crashable(&self, host: usize, log: &[LogEntry]) -> Result<(), Refusal>
-        ensures answer { result ≡ verdict (crash_tests (alone_with self.now log.now) host) }
-        ensures place { OnOk result ((host < 16) × (self.now.logged < length log.now)) }
+    fn crashable(&self, host: usize, log: &[LogEntry]) -> Result<HostNumber, Refusal>
+        ensures answer { passed result ≡ verdict (crash_tests (alone_with self.now log.now) host) }
+        ensures whose { IfOk result (λ h. h.number ≡ host) }
+        ensures place { OnOk result (self.now.logged < length log.now) }
     {
-        if !self.opened {
-            return Err(Refusal::NotOpen);
-        }
-        if host >= self.settings.hosts {
-            return Err(Refusal::NoSuchHostOrResource);
-        }
-        if !self.hosts[host].up {
-            return Err(Refusal::HostDown);
-        }
-        self.loggable(log)
+        self.open_for_calls()?;
+        let host = self.known_host(host)?;
+        self.host_up(host)?;
+        self.loggable(log)?;
+        Ok(host)
     }
 
     // Takes a host down; what it has in flight stays there.
@@ -37,32 +35,29 @@ impl Board {
         ensures answer { (d : DiskModel) → raised (over d self.old) result ≡ (crash_call (world_over d self.old log.old) host).answer }
         ensures world { (d : DiskModel) → world_over d self.new log.new ≡ (crash_call (world_over d self.old log.old) host).world }
     {
-        self.crashable(host, log)?;
-        let entry = self.plain_entry(Event::Crashed, host, 0, 0);
+        let host = self.crashable(host, log)?;
+        let entry = self.plain_entry(Event::Crashed, Turn { host, resource: 0 }, 0);
         self.take_down(host);
         self.note(log, entry);
         Ok(())
     }
 
     // The room is open, the host is there and down, and has a generation left.
-    fn restartable(&self, host: usize) -> Result<(), Refusal>
-        ensures answer { result ≡ verdict (restart_tests (alone self.now) host) }
-        ensures spare { OnOk result ((host < 16) × ((host_at (alone self.now) host).generation < 65535)) }
+    fn restartable(&self, host: usize) -> Result<HostNumber, Refusal>
+        ensures answer { passed result ≡ verdict (restart_tests (alone self.now) host) }
+        ensures whose { IfOk result (λ h. h.number ≡ host) }
+        ensures spare { OnOk result ((host_at (alone self.now) host).generation < 65535) }
     {
-        if !self.opened {
-            return Err(Refusal::NotOpen);
-        }
-        if host >= self.settings.hosts {
-            return Err(Refusal::NoSuchHostOrResource);
-        }
-        let Host { up, generation, .. } = self.hosts[host];
+        self.open_for_calls()?;
+        let host = self.known_host(host)?;
+        let Host { up, generation, .. } = self.hosts[host.number];
         if up {
             return Err(Refusal::HostDown);
         }
         if generation >= LAST_GENERATION {
             return Err(Refusal::NumberSpent);
         }
-        Ok(())
+        Ok(host)
     }
 
     // Brings a host up again, in its next generation.
@@ -70,7 +65,7 @@ impl Board {
         ensures answer { (d : DiskModel) (log : List LogEntry) → raised (over d self.old) result ≡ (restart_call (world_over d self.old log) host).answer }
         ensures world { (d : DiskModel) (log : List LogEntry) → world_over d self.new log ≡ (restart_call (world_over d self.old log) host).world }
     {
-        self.restartable(host)?;
+        let host = self.restartable(host)?;
         self.bring_up(host);
         Ok(())
     }

@@ -1,22 +1,21 @@
 // The tests by which calls refuse, in the order of the rules.
-ghost use Rattle.std.specs.Prelude.{◌≡◌, ◌<◌, true, [], ◌∷◌, length, OnOk};
+ghost use Rattle.std.specs.Prelude.{◌≡◌, ◌<◌, not, [], ◌∷◌, length, IfOk, OnOk, nat_lt};
+ghost use Rattle.disk.specs.declared.fault.Refusal.TheVariants.{HostDown, NoSuchHostOrResource, NotOpen};
 ghost use Rattle.machine.specs.Room.{host_at};
 ghost use Rattle.machine.specs.Outcomes.{area_test, log_test, standing as standing_tests};
 ghost use Rattle.machine.specs.Steps.{issue_tests};
 ghost use Rattle.machine.specs.Claiming.{check_tests, claim_tests, still_tests};
 ghost use Rattle.machine.specs.Holding.{ended_tests};
-ghost use Rattle.board.specs.Bounds.{shown as is_shown};
+ghost use Rattle.board.specs.Judging.{passed};
 ghost use Rattle.board.specs.Over.{alone, alone_with};
-ghost use Rattle.board.specs.Verdicts.{confirm_tests, late, release_tests, renew_tests, verdict};
+ghost use Rattle.board.specs.Verdicts.{confirm_tests, late, verdict};
 
 use crate::board::Board;
-use crate::clock::later;
+use crate::clock::ShownReading;
+use crate::turns::{HostNumber, Turn};
 use disk::{BLOCK_LENGTH, Refusal};
 use format::{LeaseRecord, LogEntry, Reading};
 use machine::Settings;
-
-// The most writes in flight.
-const MOST_FLIGHTS: usize = 32;
 
 // The last stamp of a generation.
 const LAST_STAMP: u32 = 9999;
@@ -24,36 +23,94 @@ const LAST_STAMP: u32 = 9999;
 // The last term of a resource.
 const LAST_TERM: u32 = 999_999;
 
+// The area is one block long.
+pub(crate) fn whole_block(area: &[u8]) -> Result<(), Refusal>
+    ensures answer { result ≡ verdict (area_test area.now ∷ []) }
+    ensures long { OnOk result (length area.now ≡ 512) }
+{
+    if area.len() != BLOCK_LENGTH {
+        return Err(Refusal::WrongLength);
+    }
+    Ok(())
+}
+
 impl Board {
-    // The room is open, the host and the resource are there, the host is up.
-    pub(crate) fn standing(&self, host: usize, resource: usize) -> Result<(), Refusal>
-        ensures answer { result ≡ verdict (standing_tests (alone self.now) host resource) }
-        ensures within { OnOk result ((host < 16) × (resource < 8)) }
+    // The room is open.
+    pub(crate) fn open_for_calls(&self) -> Result<(), Refusal>
+        ensures { result ≡ verdict ((not self.now.opened, NotOpen) ∷ []) }
     {
         if !self.opened {
             return Err(Refusal::NotOpen);
         }
-        if host >= self.settings.hosts || resource >= self.settings.resources {
+        Ok(())
+    }
+
+    // The room is still closed.
+    pub(crate) fn closed_to_calls(&self) -> Result<(), Refusal>
+        ensures { result ≡ verdict ((self.now.opened, NotOpen) ∷ []) }
+    {
+        if self.opened {
+            return Err(Refusal::NotOpen);
+        }
+        Ok(())
+    }
+
+    // The host is there.
+    pub(crate) fn known_host(&self, host: usize) -> Result<HostNumber, Refusal>
+        ensures answer { passed result ≡ verdict ((not (nat_lt host self.now.settings.hosts), NoSuchHostOrResource) ∷ []) }
+        ensures whose { IfOk result (λ h. h.number ≡ host) }
+    {
+        if host >= self.settings.hosts {
             return Err(Refusal::NoSuchHostOrResource);
         }
-        if !self.hosts[host].up {
+        Ok(HostNumber { number: host })
+    }
+
+    // The resource is there.
+    pub(crate) fn known_resource(&self, resource: usize) -> Result<(), Refusal>
+        ensures answer { result ≡ verdict ((not (nat_lt resource self.now.settings.resources), NoSuchHostOrResource) ∷ []) }
+        ensures within { OnOk result (resource < 8) }
+    {
+        if resource >= self.settings.resources {
+            return Err(Refusal::NoSuchHostOrResource);
+        }
+        Ok(())
+    }
+
+    // The host is up.
+    pub(crate) fn host_up(&self, host: HostNumber) -> Result<(), Refusal>
+        ensures { result ≡ verdict ((not (host_at (alone self.now) host.number).up, HostDown) ∷ []) }
+    {
+        if !self.hosts[host.number].up {
             return Err(Refusal::HostDown);
         }
         Ok(())
     }
 
-    // The area is one block long, and the host may call.
-    pub(crate) fn admits(&self, host: usize, resource: usize, area: &[u8]) -> Result<(), Refusal>
-        ensures answer { result ≡ verdict (area_test area.now ∷ standing_tests (alone self.now) host resource) }
-        ensures within { OnOk result ((length area.now ≡ 512) × (host < 16) × (resource < 8)) }
+    // The room is open, the host and the resource are there, the host is up.
+    pub(crate) fn standing(&self, host: usize, resource: usize) -> Result<Turn, Refusal>
+        ensures answer { passed result ≡ verdict (standing_tests (alone self.now) host resource) }
+        ensures whose { IfOk result (λ x. (x.host.number ≡ host) × (x.resource ≡ resource)) }
     {
-        if area.len() != BLOCK_LENGTH {
-            return Err(Refusal::WrongLength);
-        }
+        self.open_for_calls()?;
+        let host = self.known_host(host)?;
+        self.known_resource(resource)?;
+        self.host_up(host)?;
+        Ok(Turn { host, resource })
+    }
+
+    // The area is one block long, and the host may call.
+    pub(crate) fn admits(&self, host: usize, resource: usize, area: &[u8]) -> Result<Turn, Refusal>
+        ensures answer { passed result ≡ verdict (area_test area.now ∷ standing_tests (alone self.now) host resource) }
+        ensures whose { IfOk result (λ x. (x.host.number ≡ host) × (x.resource ≡ resource)) }
+        ensures long { OnOk result (length area.now ≡ 512) }
+    {
+        whole_block(area)?;
         self.standing(host, resource)
     }
 
-    // The log has a place left.
+    // The log has a place left. The log is a list that is lent with each call, so that it has a place left is a fact about
+    // the board and that list, which no type of one of them can hold: the contracts around it state it.
     pub(crate) fn loggable(&self, log: &[LogEntry]) -> Result<(), Refusal>
         ensures answer { result ≡ verdict (log_test (alone_with self.now log.now) ∷ []) }
         ensures place { OnOk result (self.now.logged < length log.now) }
@@ -65,66 +122,37 @@ impl Board {
     }
 
     // The lease has not run out.
-    pub(crate) fn in_time(&self, host: usize, until: Reading) -> Result<(), Refusal>
-        requires { host < 16 }
-        ensures { result ≡ verdict (late (alone self.now) host until.0 ∷ []) }
+    pub(crate) fn in_time(&self, host: HostNumber, until: Reading) -> Result<(), Refusal>
+        ensures { result ≡ verdict (late (alone self.now) host.number until.0 ∷ []) }
     {
-        if self.reading(host) >= until {
+        if self.shown(host).reading >= until {
             return Err(Refusal::Late);
         }
         Ok(())
     }
 
     // Another write can be put in flight.
-    pub(crate) fn issuable(&self, host: usize) -> Result<(), Refusal>
-        requires { host < 16 }
-        ensures answer { result ≡ verdict (issue_tests (alone self.now) host) }
-        ensures spare { OnOk result ((self.now.flying < 32) × ((host_at (alone self.now) host).stamp < 9999)) }
+    pub(crate) fn issuable(&self, host: HostNumber) -> Result<(), Refusal>
+        ensures answer { result ≡ verdict (issue_tests (alone self.now) host.number) }
+        ensures spare { OnOk result ((length (alone self.now).flights < 32) × ((host_at (alone self.now) host.number).stamp < 9999)) }
     {
-        if self.flying >= MOST_FLIGHTS {
+        if self.flights.is_full() {
             return Err(Refusal::FlightFull);
         }
-        if self.hosts[host].stamp >= LAST_STAMP {
+        if self.hosts[host.number].stamp >= LAST_STAMP {
             return Err(Refusal::NumberSpent);
         }
         Ok(())
     }
 
-    // A holder can renew.
-    pub(crate) fn renewable(&self, host: usize, until: Reading) -> Result<(), Refusal>
-        requires { host < 16 }
-        ensures answer { result ≡ verdict (renew_tests (alone self.now) host until.0) }
-        ensures spare { OnOk result ((self.now.flying < 32) × ((host_at (alone self.now) host).stamp < 9999)) }
-    {
-        self.in_time(host, until)?;
-        self.issuable(host)
-    }
-
-    // A holder can release.
-    pub(crate) fn releasable(
-        &self,
-        host: usize,
-        until: Reading,
-        log: &[LogEntry],
-    ) -> Result<(), Refusal>
-        requires { host < 16 }
-        ensures answer { result ≡ verdict (release_tests (alone_with self.now log.now) host until.0) }
-        ensures place { OnOk result (self.now.logged < length log.now) }
-        ensures spare { OnOk result ((self.now.flying < 32) × ((host_at (alone self.now) host).stamp < 9999)) }
-    {
-        self.loggable(log)?;
-        self.renewable(host, until)
-    }
-
     // A holder can confirm.
     pub(crate) fn confirmable(
         &self,
-        host: usize,
+        host: HostNumber,
         until: Reading,
         log: &[LogEntry],
     ) -> Result<(), Refusal>
-        requires { host < 16 }
-        ensures answer { result ≡ verdict (confirm_tests (alone_with self.now log.now) host until.0) }
+        ensures answer { result ≡ verdict (confirm_tests (alone_with self.now log.now) host.number until.0) }
         ensures place { OnOk result (self.now.logged < length log.now) }
     {
         self.loggable(log)?;
@@ -132,13 +160,17 @@ impl Board {
     }
 
     // A lease or a claim has run out, and the log has a place left.
-    pub(crate) fn ended(&self, host: usize, end: Reading, log: &[LogEntry]) -> Result<(), Refusal>
-        requires { host < 16 }
-        ensures answer { result ≡ verdict (ended_tests (alone_with self.now log.now) host end.0) }
+    pub(crate) fn ended(
+        &self,
+        host: HostNumber,
+        end: Reading,
+        log: &[LogEntry],
+    ) -> Result<(), Refusal>
+        ensures answer { result ≡ verdict (ended_tests (alone_with self.now log.now) host.number end.0) }
         ensures place { OnOk result (self.now.logged < length log.now) }
     {
         self.loggable(log)?;
-        if self.reading(host) < end {
+        if self.shown(host).reading < end {
             return Err(Refusal::Early);
         }
         Ok(())
@@ -147,49 +179,42 @@ impl Board {
     // A claim of this reading is neither too young to be checked nor over, and the log has a place left.
     pub(crate) fn checkable(
         &self,
-        host: usize,
-        issued: Reading,
+        host: HostNumber,
+        issued: ShownReading,
         log: &[LogEntry],
     ) -> Result<(), Refusal>
-        requires host { host < 16 }
-        requires shown { is_shown issued.0 ≡ true }
-        ensures answer { result ≡ verdict (check_tests (alone_with self.now log.now) host issued.0) }
+        ensures answer { result ≡ verdict (check_tests (alone_with self.now log.now) host.number issued.reading.0) }
         ensures place { OnOk result (self.now.logged < length log.now) }
     {
         self.loggable(log)?;
         let Settings { delay, lease, .. } = self.settings;
-        let reading = self.reading(host);
-        if reading < later(issued, 2 * delay + 1) {
+        let reading = self.shown(host).reading;
+        if reading < issued.later(2 * delay + 1) {
             return Err(Refusal::Early);
         }
-        if reading >= later(issued, lease) {
+        if reading >= issued.later(lease) {
             return Err(Refusal::Late);
         }
         Ok(())
     }
 
     // A claim above the term of this record can be put in flight.
-    pub(crate) fn claimable(&self, host: usize, seen: LeaseRecord) -> Result<(), Refusal>
-        requires { host < 16 }
-        ensures answer { result ≡ verdict (claim_tests (alone self.now) host seen) }
-        ensures spare { OnOk result ((self.now.flying < 32) × ((host_at (alone self.now) host).stamp < 9999) × (seen.term < 999999)) }
+    pub(crate) fn claimable(&self, host: HostNumber, seen: LeaseRecord) -> Result<(), Refusal>
+        ensures answer { result ≡ verdict (claim_tests (alone self.now) host.number seen) }
+        ensures term { OnOk result (seen.term < 999999) }
     {
-        if self.flying >= MOST_FLIGHTS {
-            return Err(Refusal::FlightFull);
-        }
-        if self.hosts[host].stamp >= LAST_STAMP || seen.term >= LAST_TERM {
+        self.issuable(host)?;
+        if seen.term >= LAST_TERM {
             return Err(Refusal::NumberSpent);
         }
         Ok(())
     }
 
     // A record that is watched since this reading has stood still for a lease.
-    pub(crate) fn still(&self, host: usize, since: Reading) -> Result<(), Refusal>
-        requires host { host < 16 }
-        requires shown { is_shown since.0 ≡ true }
-        ensures { result ≡ verdict (still_tests (alone self.now) host since.0) }
+    pub(crate) fn still(&self, host: HostNumber, since: ShownReading) -> Result<(), Refusal>
+        ensures { result ≡ verdict (still_tests (alone self.now) host.number since.reading.0) }
     {
-        if self.reading(host) < later(since, self.settings.lease) {
+        if self.shown(host).reading < since.later(self.settings.lease) {
             return Err(Refusal::Early);
         }
         Ok(())

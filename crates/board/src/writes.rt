@@ -10,9 +10,10 @@ ghost use Rattle.board.specs.Over.{alone, over, world_over};
 ghost use Rattle.board.specs.Verdicts.{mark_of, raised, verdict, write_to_land};
 
 use crate::board::Board;
-use crate::flights::{close_gap, place_of};
+use crate::flights::place_of;
 use crate::naming::WriteName;
-use disk::{BLOCK_LENGTH, Refusal};
+use crate::refusals::whole_block;
+use disk::Refusal;
 use format::LeaseRecord;
 
 impl Board {
@@ -20,7 +21,7 @@ impl Board {
     fn in_flight(&self, name: WriteName) -> Option<LeaseRecord>
         ensures { result ≡ option_map (λ f. f.body) (find (mark_of name) (alone self.now).flights) }
     {
-        let at = place_of(&self.flights, self.flying, name)?;
+        let at = place_of(&self.flights, name)?;
         Some(self.flights[at].body)
     }
 
@@ -29,28 +30,18 @@ impl Board {
         ensures answer { result ≡ told (λ f. f.body) (write_to_land (alone self.now) (mark_of name) area.now) }
         ensures long { OnOk result (length area.now ≡ 512) }
     {
-        if area.len() != BLOCK_LENGTH {
-            return Err(Refusal::WrongLength);
-        }
-        if !self.opened {
-            return Err(Refusal::NotOpen);
-        }
-        match self.in_flight(name) {
-            Some(body) => Ok(body),
-            None => Err(Refusal::NoSuchWrite),
-        }
+        whole_block(area)?;
+        self.open_for_calls()?;
+        self.in_flight(name).ok_or(Refusal::NoSuchWrite)
     }
 
     // Takes the write of this name out of flight, if there is one.
     pub fn take_out(&mut self, name: WriteName)
         ensures { (d : DiskModel) → over d self.new ≡ with_flights (over d self.old) (removed (mark_of name) (over d self.old).flights) }
     {
-        let flying = self.flying;
-        let Some(at) = place_of(&self.flights, flying, name) else {
-            return;
-        };
-        close_gap(&mut self.flights, flying, at);
-        self.flying = flying - 1;
+        if let Some(at) = place_of(&self.flights, name) {
+            self.flights.remove(at);
+        }
     }
 
     // Loses a write that is in flight.
@@ -58,12 +49,8 @@ impl Board {
         ensures answer { (d : DiskModel) (log : List LogEntry) → raised (over d self.old) result ≡ (lose_call (world_over d self.old log) (mark_of name)).answer }
         ensures world { (d : DiskModel) (log : List LogEntry) → world_over d self.new log ≡ (lose_call (world_over d self.old log) (mark_of name)).world }
     {
-        if !self.opened {
-            return Err(Refusal::NotOpen);
-        }
-        if self.in_flight(name).is_none() {
-            return Err(Refusal::NoSuchWrite);
-        }
+        self.open_for_calls()?;
+        self.in_flight(name).ok_or(Refusal::NoSuchWrite)?;
         self.take_out(name);
         Ok(())
     }
@@ -73,15 +60,8 @@ impl Board {
         ensures answer { result ≡ verdict (spoil_tests (alone self.now) resource area.now) }
         ensures long { OnOk result (length area.now ≡ 512) }
     {
-        if area.len() != BLOCK_LENGTH {
-            return Err(Refusal::WrongLength);
-        }
-        if !self.opened {
-            return Err(Refusal::NotOpen);
-        }
-        if resource >= self.settings.resources {
-            return Err(Refusal::NoSuchHostOrResource);
-        }
-        Ok(())
+        whole_block(area)?;
+        self.open_for_calls()?;
+        self.known_resource(resource)
     }
 }

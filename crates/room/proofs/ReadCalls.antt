@@ -35,33 +35,33 @@ spare : {A : Type 0} (w : World) (o : Outcome A) → w.room.logged < length w.lo
 spare w o l = sym (ap (λ (z : Result (Unit {0}) Fault). then z w o) (gate_passes w.room (log_test w ∷ []) (lt-leb (length w.log) w.room.logged l, tt)))
 
 -- try
-pub try_on : (w : World) (h r : ℕ) (area : List ℕ) (s : Result Turn Refusal) → passed s ≡ verdict (try_tests w.room h r area) → IfOk s (λ x. (x.host ≡ h) × (x.resource ≡ r))
-    → try_call w h r area ≡ proceed w s (λ x. reading_block w r (tried x.host x.resource))
+pub try_on : (w : World) (h r : ℕ) (area : List ℕ) (s : Result Turn Refusal) → passed s ≡ verdict (try_tests w.room h r area) → IfOk s (λ x. (x.host.number ≡ h) × (x.resource ≡ r))
+    → try_call w h r area ≡ proceed w s (λ x. reading_block w r (tried x.host.number x.resource))
 unfolding try_call
 try_on w h r area (Ok x) e whose =
     unless_proceeds w (try_tests w.room h r area) (reading_block w r (tried h r))
     ∙ same_tests w (λ _. reading_block w r (tried h r)) _ _ e
-    ∙ ap (λ (k : ℕ). reading_block w r (tried k r)) (sym whose.0) ∙ ap (λ (k : ℕ). reading_block w r (tried x.host k)) (sym whose.1)
+    ∙ ap (λ (k : ℕ). reading_block w r (tried k r)) (sym whose.0) ∙ ap (λ (k : ℕ). reading_block w r (tried x.host.number k)) (sym whose.1)
 try_on w h r area (Err c) e whose = unless_proceeds w (try_tests w.room h r area) (reading_block w r (tried h r)) ∙ same_tests w (λ _. reading_block w r (tried h r)) _ _ e
 
 -- check
-pub check_on : (w : World) (h r : ℕ) (area : List ℕ) (s : Result ClaimToCheck Refusal) → told claim_of s ≡ claim_to_check w h r area → IfOk s (λ x. (x.host ≡ h) × (x.resource ≡ r))
+pub check_on : (w : World) (h r : ℕ) (area : List ℕ) (s : Result ClaimToCheck Refusal) → told claim_of s ≡ claim_to_check w h r area → IfOk s (λ x. (x.turn.host.number ≡ h) × (x.turn.resource ≡ r))
     → IfOk s (λ _. w.room.logged < length w.log) → check_call w h r area ≡ proceed w s (λ x. reading_block w r (judged_claim x))
 check_on w h r area (Ok x) e whose place =
     check_joined w h r area
     ∙ same_tests w (λ (y : Claim). reading_block w r (checked h r y)) _ _ e
     ∙ reading_same w r (checked h r (claim_of x)) (judged_claim x) (λ y.
-    ap (λ (k : ℕ). checked k r (claim_of x) (read_at w r) y) (sym whose.0) ∙ ap (λ (k : ℕ). checked x.host k (claim_of x) (read_at w r) y) (sym whose.1)
-    ∙ spare (read_at w r) (checked x.host x.resource (claim_of x) (read_at w r) y) place)
+    ap (λ (k : ℕ). checked k r (claim_of x) (read_at w r) y) (sym whose.0) ∙ ap (λ (k : ℕ). checked x.turn.host.number k (claim_of x) (read_at w r) y) (sym whose.1)
+    ∙ spare (read_at w r) (checked x.turn.host.number x.turn.resource (claim_of x) (read_at w r) y) place)
 check_on w h r area (Err c) e whose place = check_joined w h r area ∙ same_tests w (λ (y : Claim). reading_block w r (checked h r y)) _ _ e
 
 -- confirm
-pub confirm_on : (w : World) (h r : ℕ) (area : List ℕ) (s : Result RenewalToConfirm Refusal) → told renewal_of s ≡ renewal_to_confirm w h r area → IfOk s (λ x. (x.host ≡ h) × (x.resource ≡ r))
+pub confirm_on : (w : World) (h r : ℕ) (area : List ℕ) (s : Result RenewalToConfirm Refusal) → told renewal_of s ≡ renewal_to_confirm w h r area → IfOk s (λ x. (x.turn.host.number ≡ h) × (x.turn.resource ≡ r))
     → IfOk s (λ _. w.room.logged < length w.log) → confirm_call w h r area ≡ proceed w s (λ x. reading_block w r (judged_renewal x))
 confirm_on w h r area (Ok x) e whose place =
     confirm_joined w h r area
     ∙ same_tests w (λ (y : Renewal). reading_block w r (confirmed h r y)) _ _ e
     ∙ reading_same w r (confirmed h r (renewal_of x)) (judged_renewal x) (λ y.
-    ap (λ (k : ℕ). confirmed k r (renewal_of x) (read_at w r) y) (sym whose.0) ∙ ap (λ (k : ℕ). confirmed x.host k (renewal_of x) (read_at w r) y) (sym whose.1)
-    ∙ spare (read_at w r) (confirmed x.host x.resource (renewal_of x) (read_at w r) y) place)
+    ap (λ (k : ℕ). confirmed k r (renewal_of x) (read_at w r) y) (sym whose.0) ∙ ap (λ (k : ℕ). confirmed x.turn.host.number k (renewal_of x) (read_at w r) y) (sym whose.1)
+    ∙ spare (read_at w r) (confirmed x.turn.host.number x.turn.resource (renewal_of x) (read_at w r) y) place)
 confirm_on w h r area (Err c) e whose place = confirm_joined w h r area ∙ same_tests w (λ (y : Renewal). reading_block w r (confirmed h r y)) _ _ e

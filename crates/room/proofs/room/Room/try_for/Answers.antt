@@ -12,7 +12,7 @@ use Rattle.room.proofs.room.Room.try_for.Goals.{After-read_after}
 
 -- the read that the call goes on by
 reads : (g : Over) (c : After-read_after g) (log : List LogEntry)
-    → ReadsOn (λ (w : World). try_call w c.args.host c.args.resource c.args.area.now) (λ (x : Turn). tried x.host x.resource) c.args.resource (length c.args.area.now)
+    → ReadsOn (λ (w : World). try_call w c.args.host c.args.resource c.args.area.now) (λ (x : Turn). tried x.host.number x.resource) c.args.resource (length c.args.area.now)
     (g.D.Disk.meaning c.args.self.now.disk) (g.D.Disk.meaning c.read_after.new.self.disk) c.args.self.now.board c.read_after.new.self.board c.turn_to_try-tested.result log
 reads g c log =
     let found = c.turn_to_try-tested.ensures in

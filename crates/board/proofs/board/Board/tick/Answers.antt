@@ -1,5 +1,0 @@
-use Rattle.std.proofs.Common.{rules}
-use Rattle.board.proofs.board.Board.tick.Goals as goal
-
-pub returns : goal.returns
-returns c = record { answer = search rules; world = λ d log. let p = c.pass.ensures d in search rules }
