@@ -1,5 +1,5 @@
 // Found, set clock, open and tick.
-ghost use Rattle.std.specs.Prelude.{◌≡◌, ◌≤◌, List, length};
+ghost use Rattle.std.specs.Prelude.{◌≡◌, ◌≤◌, List, replicate};
 ghost use Rattle.format.specs.declared.events.LogEntry.{LogEntry};
 ghost use Rattle.machine.specs.Room.{founded};
 ghost use Rattle.machine.specs.Setup.{open_call, set_clock_call, tick_call};
@@ -13,13 +13,16 @@ use disk::{Disk, Fault, Refusal};
 use format::{LeaseRecord, write_record};
 use machine::Settings;
 
-// Writes the founding records of so many resources, and stops at the first block that fails.
+// Writes the founding records of so many resources with an area that is all zero, as it is afterwards too, and stops at
+// the first block that fails.
+#[tactic(auto, using(crate::proofs::Formatting::format_next, crate::proofs::Records::record_answer, crate::proofs::Records::record_disk), unfolding(crate::specs::Formats::formatted))]
 fn format_blocks<D: Disk>(disk: &mut D, resources: usize, area: &mut [u8]) -> Result<(), Fault>
-    requires whole { length area.old ≡ 512 }
+    requires blank { area.old ≡ replicate 512 0 }
     requires few { resources ≤ 8 }
     ensures answer { result ≡ (formatted resources (D.Disk.meaning disk.old)).answer }
     ensures disk { D.Disk.meaning disk.new ≡ (formatted resources (D.Disk.meaning disk.old)).disk }
     ensures outside { D.Disk.outside disk.new ≡ D.Disk.outside disk.old }
+    ensures blank { area.new ≡ area.old }
 {
     for resource in 0..resources {
         write_record(disk, LeaseRecord::founding(resource as u8), area)?;
@@ -52,6 +55,7 @@ impl<D: Disk> Room<D> {
     }
 
     // Formats the blocks of all resources, and opens the room.
+    #[tactic(auto, using(crate::proofs::Formatting::formats_all), unfolding(machine::specs::Setup::open_call))]
     pub fn open(&mut self, area: &mut [u8]) -> Result<(), Fault>
         ensures answer { (log : List LogEntry) → result ≡ (open_call (as_world D.Disk.meaning self.old log) area.old).answer }
         ensures world { (log : List LogEntry) → as_world D.Disk.meaning self.new log ≡ (open_call (as_world D.Disk.meaning self.old log) area.old).world }
@@ -60,18 +64,12 @@ impl<D: Disk> Room<D> {
     {
         let tested = self.board.openable(area);
         self.admit(tested, area)?;
+        area.fill(0);
         let resources = self.board.resources();
         if self.disk.count() < resources {
-            area.fill(0);
-            return Err(Fault {
-                cause: Refusal::NoSuchBlock,
-                number: resources - 1,
-                height: self.disk.height().saturating_add(1),
-            });
+            return Err(Refusal::NoSuchBlock.at(resources - 1, self.height()));
         }
-        let formatted = format_blocks(&mut self.disk, resources, area);
-        area.fill(0);
-        formatted?;
+        format_blocks(&mut self.disk, resources, area)?;
         self.board.set_open();
         Ok(())
     }
