@@ -1,4 +1,3 @@
 pub mod Judged
-pub mod Records
 pub mod Formatting
 pub mod Sound

@@ -12,7 +12,7 @@ use format::write_record;
 
 impl<D: Disk> Room<D> {
     // Writes a record that is in flight to the block of its resource.
-    #[tactic(auto, using(crate::proofs::Records::record_answer, crate::proofs::Records::record_disk), unfolding(machine::specs::Writes::land_call))]
+    #[tactic(auto, using(format::proofs::Decoding::length_block), unfolding(format::specs::Stores::after_record, format::specs::Stores::write_answer, machine::specs::Writes::land_call))]
     pub fn land(&mut self, name: WriteName, area: &mut [u8]) -> Result<(), Fault>
         ensures answer { (log : List LogEntry) → result ≡ (land_call (as_world D.Disk.meaning self.old log) (mark_of name) area.old).answer }
         ensures world { (log : List LogEntry) → as_world D.Disk.meaning self.new log ≡ (land_call (as_world D.Disk.meaning self.old log) (mark_of name) area.old).world }
