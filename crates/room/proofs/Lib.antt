@@ -1,3 +1,4 @@
 pub mod Judged
 pub mod Formatting
 pub mod Sound
+pub mod Trying

@@ -10,7 +10,7 @@ use machine::{Checked, Tried};
 
 impl<D: Disk> Room<D> {
     // Claims a resource that is free or whose record has stood still for a lease, and watches it otherwise.
-    #[tactic(auto, unfolding(machine::specs::Claiming::try_call))]
+    #[tactic(auto, using(crate::proofs::Trying::try_joined))]
     pub fn try_for(&mut self, host: usize, resource: usize, area: &mut [u8]) -> Result<Tried, Fault>
         ensures answer { (log : List LogEntry) → result ≡ (try_call (as_world D.Disk.meaning self.old log) host resource area.old).answer }
         ensures world { (log : List LogEntry) → as_world D.Disk.meaning self.new log ≡ (try_call (as_world D.Disk.meaning self.old log) host resource area.old).world }
