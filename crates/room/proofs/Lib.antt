@@ -1,7 +1,4 @@
-pub mod Ends
-pub mod ReadSteps
-pub mod ReadCalls
-pub mod WriteSteps
-pub mod WriteCalls
+pub mod Judged
 pub mod Formatting
 pub mod Sound
+pub mod Trying

@@ -1,4 +1,2 @@
 pub mod Rooms
-pub mod Reading
-pub mod Formats
 pub mod Runs

@@ -1,6 +1,5 @@
 -- A room in code as a room of the rules.
-use Rattle.std.specs.Prelude.{ℕ, List, length, replicate, Ok, Err, Result}
-use Rattle.disk.specs.declared.fault.Refusal.{Refusal}
+use Rattle.std.specs.Prelude.{ℕ, List, length, replicate}
 use Rattle.disk.specs.Model.{DiskModel}
 use Rattle.format.specs.declared.events.LogEntry.{LogEntry}
 use Rattle.machine.specs.Room.{World}
@@ -19,8 +18,3 @@ as_world meaning x log = world_over (meaning x.disk) x.board log
 -- an area that is all zero
 abbrev pub zeros : List ℕ → List ℕ
 zeros area = replicate (length area) 0
-
--- an area after tests: zeroed where they refuse
-abbrev pub wiped_if_refused : {X : Type 0} → Result X Refusal → List ℕ → List ℕ
-wiped_if_refused (Ok x) area = area
-wiped_if_refused (Err cause) area = zeros area

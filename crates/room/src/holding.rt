@@ -5,7 +5,7 @@ ghost use Rattle.room.specs.Rooms.{as_room, as_world, zeros};
 
 use crate::room::Room;
 use disk::{Disk, Fault};
-use format::{LogEntry, Mark};
+use format::{LogEntry, Mark, read_record};
 use machine::Confirmed;
 
 impl<D: Disk> Room<D> {
@@ -20,6 +20,7 @@ impl<D: Disk> Room<D> {
     }
 
     // Makes the lease longer if the pending renewal stands in its block.
+    #[tactic(auto, using(board::proofs::Joined::confirm_joined))]
     pub fn confirm(
         &mut self,
         host: usize,
@@ -33,7 +34,8 @@ impl<D: Disk> Room<D> {
         ensures outside { D.Disk.outside self.new.disk ≡ D.Disk.outside self.old.disk }
     {
         let tested = self.board.renewal_to_confirm(host, resource, log, area);
-        let (renewal, seen) = self.read_after(tested, resource, area)?;
+        let renewal = self.admit(tested, area)?;
+        let seen = read_record(&mut self.disk, resource, area)?;
         let answer = self.board.judge_renewal(renewal, seen, log);
         self.raise(answer)
     }

@@ -2,13 +2,11 @@
 #![tactic(auto)]
 
 mod accessors;
-mod answers;
 mod call;
 mod claims;
 mod holding;
 mod hosts;
 mod raising;
-mod reading;
 mod room;
 mod running;
 mod setup;

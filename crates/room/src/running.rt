@@ -4,7 +4,6 @@ ghost use Rattle.machine.specs.Calls.{perform as performed_by};
 ghost use Rattle.room.specs.Rooms.{as_world, zeros};
 ghost use Rattle.room.specs.Runs.{StaysSoundBy, call_of};
 
-use crate::answers::{from_checked, from_confirmed, from_done, from_mark, from_tried};
 use crate::call::Call;
 use crate::room::Room;
 use disk::{Disk, Fault};
@@ -19,22 +18,24 @@ impl<D: Disk> Room<D> {
         ensures outside { D.Disk.outside self.new.disk ≡ D.Disk.outside self.old.disk }
     {
         match call {
-            Call::SetClock { host, offset } => from_done(self.set_clock(host, offset)),
-            Call::Open => from_done(self.open(area)),
-            Call::Tick => from_done(self.tick()),
-            Call::Try { host, resource } => from_tried(self.try_for(host, resource, area)),
-            Call::Check { host, resource } => from_checked(self.check(host, resource, log, area)),
-            Call::Renew { host, resource } => from_mark(self.renew(host, resource)),
-            Call::Confirm { host, resource } => {
-                from_confirmed(self.confirm(host, resource, log, area))
+            Call::SetClock { host, offset } => self.set_clock(host, offset).map(Answer::from),
+            Call::Open => self.open(area).map(Answer::from),
+            Call::Tick => self.tick().map(Answer::from),
+            Call::Try { host, resource } => self.try_for(host, resource, area).map(Answer::from),
+            Call::Check { host, resource } => {
+                self.check(host, resource, log, area).map(Answer::from)
             }
-            Call::Release { host, resource } => from_mark(self.release(host, resource, log)),
-            Call::Watch { host, resource } => from_done(self.watch(host, resource, log)),
-            Call::Land(name) => from_done(self.land(name, area)),
-            Call::Lose(name) => from_done(self.lose(name)),
-            Call::Spoil { resource } => from_done(self.spoil(resource, area)),
-            Call::Crash { host } => from_done(self.crash(host, log)),
-            Call::Restart { host } => from_done(self.restart(host)),
+            Call::Renew { host, resource } => self.renew(host, resource).map(Answer::from),
+            Call::Confirm { host, resource } => {
+                self.confirm(host, resource, log, area).map(Answer::from)
+            }
+            Call::Release { host, resource } => self.release(host, resource, log).map(Answer::from),
+            Call::Watch { host, resource } => self.watch(host, resource, log).map(Answer::from),
+            Call::Land(name) => self.land(name, area).map(Answer::from),
+            Call::Lose(name) => self.lose(name).map(Answer::from),
+            Call::Spoil { resource } => self.spoil(resource, area).map(Answer::from),
+            Call::Crash { host } => self.crash(host, log).map(Answer::from),
+            Call::Restart { host } => self.restart(host).map(Answer::from),
         }
     }
 

@@ -1,9 +1,8 @@
 // Found, set clock, open and tick.
-ghost use Rattle.std.specs.Prelude.{◌≡◌, ◌≤◌, List, length};
+ghost use Rattle.std.specs.Prelude.{◌≡◌, ◌≤◌, List, replicate};
 ghost use Rattle.format.specs.declared.events.LogEntry.{LogEntry};
 ghost use Rattle.machine.specs.Room.{founded};
-ghost use Rattle.machine.specs.Setup.{open_call, set_clock_call, tick_call};
-ghost use Rattle.room.specs.Formats.{formatted};
+ghost use Rattle.machine.specs.Setup.{formatting, open_call, set_clock_call, tick_call};
 ghost use Rattle.room.specs.Rooms.{as_room, as_world, zeros};
 ghost use Rattle.room.specs.Runs.{SoundFrom};
 
@@ -12,20 +11,6 @@ use board::Board;
 use disk::{Disk, Fault, Refusal};
 use format::{LeaseRecord, write_record};
 use machine::Settings;
-
-// Writes the founding records of so many resources, and stops at the first block that fails.
-fn format_blocks<D: Disk>(disk: &mut D, resources: usize, area: &mut [u8]) -> Result<(), Fault>
-    requires whole { length area.old ≡ 512 }
-    requires few { resources ≤ 8 }
-    ensures answer { result ≡ (formatted resources (D.Disk.meaning disk.old)).answer }
-    ensures disk { D.Disk.meaning disk.new ≡ (formatted resources (D.Disk.meaning disk.old)).disk }
-    ensures outside { D.Disk.outside disk.new ≡ D.Disk.outside disk.old }
-{
-    for resource in 0..resources {
-        write_record(disk, LeaseRecord::founding(resource as u8), area)?;
-    }
-    Ok(())
-}
 
 impl<D: Disk> Room<D> {
     // A room as it is founded, above any disk: closed, at tick 0, with nothing in flight or logged. Whatever calls are
@@ -51,7 +36,26 @@ impl<D: Disk> Room<D> {
         self.raise(answer)
     }
 
+    // Writes the founding records of so many resources with an area that is all zero, as it is afterwards too, and opens
+    // the room. The first block that fails ends it.
+    #[tactic(auto, using(crate::proofs::Formatting::format_next, format::proofs::Decoding::length_block), unfolding(format::specs::Stores::after_record, format::specs::Stores::write_answer))]
+    fn format_blocks(&mut self, resources: usize, area: &mut [u8]) -> Result<(), Fault>
+        requires blank { area.old ≡ replicate 512 0 }
+        requires few { resources ≤ 8 }
+        ensures answer { (log : List LogEntry) → result ≡ (formatting (as_world D.Disk.meaning self.old log) 0 resources).answer }
+        ensures world { (log : List LogEntry) → as_world D.Disk.meaning self.new log ≡ (formatting (as_world D.Disk.meaning self.old log) 0 resources).world }
+        ensures blank { area.new ≡ area.old }
+        ensures outside { D.Disk.outside self.new.disk ≡ D.Disk.outside self.old.disk }
+    {
+        for resource in 0..resources {
+            write_record(&mut self.disk, LeaseRecord::founding(resource as u8), area)?;
+        }
+        self.board.set_open();
+        Ok(())
+    }
+
     // Formats the blocks of all resources, and opens the room.
+    #[tactic(auto, unfolding(machine::specs::Setup::open_call))]
     pub fn open(&mut self, area: &mut [u8]) -> Result<(), Fault>
         ensures answer { (log : List LogEntry) → result ≡ (open_call (as_world D.Disk.meaning self.old log) area.old).answer }
         ensures world { (log : List LogEntry) → as_world D.Disk.meaning self.new log ≡ (open_call (as_world D.Disk.meaning self.old log) area.old).world }
@@ -60,20 +64,12 @@ impl<D: Disk> Room<D> {
     {
         let tested = self.board.openable(area);
         self.admit(tested, area)?;
+        area.fill(0);
         let resources = self.board.resources();
         if self.disk.count() < resources {
-            area.fill(0);
-            return Err(Fault {
-                cause: Refusal::NoSuchBlock,
-                number: resources - 1,
-                height: self.disk.height().saturating_add(1),
-            });
+            return Err(Refusal::NoSuchBlock.at(resources - 1, self.height()));
         }
-        let formatted = format_blocks(&mut self.disk, resources, area);
-        area.fill(0);
-        formatted?;
-        self.board.set_open();
-        Ok(())
+        self.format_blocks(resources, area)
     }
 
     // A millisecond passes, and the writes that are too old are lost.

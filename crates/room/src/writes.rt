@@ -12,6 +12,7 @@ use format::write_record;
 
 impl<D: Disk> Room<D> {
     // Writes a record that is in flight to the block of its resource.
+    #[tactic(auto, using(format::proofs::Decoding::length_block), unfolding(format::specs::Stores::after_record, format::specs::Stores::write_answer, machine::specs::Writes::land_call))]
     pub fn land(&mut self, name: WriteName, area: &mut [u8]) -> Result<(), Fault>
         ensures answer { (log : List LogEntry) → result ≡ (land_call (as_world D.Disk.meaning self.old log) (mark_of name) area.old).answer }
         ensures world { (log : List LogEntry) → as_world D.Disk.meaning self.new log ≡ (land_call (as_world D.Disk.meaning self.old log) (mark_of name) area.old).world }
@@ -36,6 +37,7 @@ impl<D: Disk> Room<D> {
     }
 
     // Fills the block of a resource with what is no record.
+    #[tactic(auto, unfolding(machine::specs::Writes::spoil_call))]
     pub fn spoil(&mut self, resource: usize, area: &mut [u8]) -> Result<(), Fault>
         ensures answer { (log : List LogEntry) → result ≡ (spoil_call (as_world D.Disk.meaning self.old log) resource area.old).answer }
         ensures world { (log : List LogEntry) → as_world D.Disk.meaning self.new log ≡ (spoil_call (as_world D.Disk.meaning self.old log) resource area.old).world }

@@ -1,15 +1,8 @@
-use Rattle.std.proofs.Common.{sym, refl, subst}
-use Rattle.machine.specs.Room.{Room}
+use Rattle.std.proofs.Common.{refl}
 use Rattle.machine.proofs.Runs.{stays_sound_lem}
-use Rattle.room.specs.Runs.{SoundFrom}
 use Rattle.room.proofs.room.Room.found.Goals as goal
 
 pub returns : goal.returns
 returns g c =
     let d = g.D.Disk.meaning c.args.disk in
-    let is = c.new.ensures d in
-    record {
-      room = is;
-      outside = refl;
-      sound = subst (λ (m : Room). SoundFrom m) (sym is) (stays_sound_lem c.args.settings d);
-    }
+    record { room = c.new.ensures d; outside = refl; sound = rw (c.new.ensures d) (stays_sound_lem c.args.settings d) }
