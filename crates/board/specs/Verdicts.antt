@@ -5,6 +5,7 @@ use Rattle.std.specs.Option.{ok_or}
 use Rattle.disk.specs.declared.fault.Fault.{Fault}
 use Rattle.disk.specs.declared.fault.Refusal.{Refusal}
 use Rattle.disk.specs.declared.fault.Refusal.TheVariants.{Late, NoSuchWrite, NotLanded, NotOpen, WrongSeat}
+use Rattle.format.specs.declared.events.Event.{Event}
 use Rattle.format.specs.declared.events.Event.TheVariants as events
 use Rattle.format.specs.declared.lease.LeaseRecord.{LeaseRecord}
 use Rattle.format.specs.declared.lease.Mark.{Mark}
@@ -61,6 +62,15 @@ renew_tests m h until = late m h until ∷ issue_tests m h
 pub record Renewal : Type 0 where
   pub term : ℕ
   pub pending : Pending
+
+-- a lease from a reading on runs out at this one
+abbrev pub lease_end : Room → ℤ → ℤ
+lease_end m from = from +ℤ pos m.settings.lease
+
+-- the seat is held until a reading, with nothing pending, and an entry of this event tells it
+abbrev pub held_until : World → Event → ℕ → ℕ → ℕ → ℤ → World
+held_until w event h r term until =
+    noted (at_room w (with_seat w.room h r (seats.Held term (record { 0 = until }) None))) (lease_entry w.room event h r term until)
 
 -- a renewal that landed extends the lease to a lease from when it was issued
 abbrev pub extended : World → ℕ → ℕ → Renewal → Outcome Confirmed

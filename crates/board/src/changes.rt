@@ -7,13 +7,14 @@ ghost use Rattle.machine.specs.Setup.{with_offset};
 ghost use Rattle.machine.specs.Hosts.{brought_up, taken_down};
 ghost use Rattle.board.specs.Judging.{passed};
 ghost use Rattle.board.specs.Over.{alone, alone_with};
-ghost use Rattle.board.specs.Verdicts.{renew_tests, verdict};
+ghost use Rattle.board.specs.Verdicts.{held_until, lease_end, renew_tests, verdict};
 
 use crate::board::Board;
+use crate::clock::ShownReading;
 use crate::turns::{HostNumber, Turn};
 use disk::Refusal;
 use format::{Event, Kind, LeaseRecord, LogEntry, Mark, Reading, Tick};
-use machine::{Flight, Host};
+use machine::{Flight, Host, Seat};
 
 impl Board {
     // Puts a record in flight under the host's next stamp, and answers its mark.
@@ -79,14 +80,9 @@ impl Board {
         requires { unsigned_abs until.0 ≤ 87459999 }
         ensures { result ≡ lease_entry (alone self.now) event turn.host.number turn.resource term until.0 }
     {
-        let host = turn.host.number;
         LogEntry {
-            tick: self.tick,
-            event,
-            host: host as u8,
-            resource: turn.resource as u8,
-            term,
-            until: until.tick(self.hosts[host].offset),
+            until: until.tick(self.hosts[turn.host.number].offset),
+            ..self.plain_entry(event, turn, term)
         }
     }
 
@@ -112,6 +108,31 @@ impl Board {
         let place = &mut log[self.logged];
         *place = entry;
         self.logged += 1;
+    }
+
+    // The seat is held for a lease from this reading on, with nothing pending, and the log says so; answers until when.
+    pub(crate) fn hold(
+        &mut self,
+        event: Event,
+        turn: Turn,
+        term: u32,
+        issued: ShownReading,
+        log: &mut [LogEntry],
+    ) -> Reading
+        requires { self.old.logged < length log.old }
+        ensures until { result.0 ≡ lease_end (alone self.old) issued.reading.0 }
+        ensures world { alone_with self.new log.new ≡ held_until (alone_with self.old log.old) event turn.host.number turn.resource term (lease_end (alone self.old) issued.reading.0) }
+    {
+        let until = issued.later(self.settings.lease);
+        let entry = self.lease_entry(event, turn, term, until);
+        let held = Seat::Held {
+            term,
+            until,
+            pending: None,
+        };
+        self.seats.put(turn, held);
+        self.note(log, entry);
+        until
     }
 
     // The host is down, and its seats are idle.

@@ -111,15 +111,7 @@ impl Board {
             issued,
             ..
         } = claim;
-        let until = issued.later(self.settings.lease);
-        let entry = self.lease_entry(Event::Granted, turn, term, until);
-        let held = Seat::Held {
-            term,
-            until,
-            pending: None,
-        };
-        self.seats.put(turn, held);
-        self.note(log, entry);
+        let until = self.hold(Event::Granted, turn, term, issued, log);
         Checked::Granted { term, until }
     }
 

@@ -82,15 +82,7 @@ impl Board {
             issued,
             ..
         } = renewal;
-        let until = issued.later(self.settings.lease);
-        let entry = self.lease_entry(Event::Renewed, turn, term, until);
-        let longer = Seat::Held {
-            term,
-            until,
-            pending: None,
-        };
-        self.seats.put(turn, longer);
-        self.note(log, entry);
+        self.hold(Event::Renewed, turn, term, issued, log);
     }
 
     // Whether a record is one of this host's, in its present generation.
