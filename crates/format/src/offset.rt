@@ -32,9 +32,9 @@ pub(crate) fn push_offset(line: &mut LineBuffer, offset: i32)
     let millis = offset.unsigned_abs();
     line.push_decimal(millis / 1000);
     line.push(b'.');
-    line.push(b'0' + (millis / 100 % 10) as u8);
-    line.push(b'0' + (millis / 10 % 10) as u8);
-    line.push(b'0' + (millis % 10) as u8);
+    line.push_digit(millis / 100);
+    line.push_digit(millis / 10);
+    line.push_digit(millis);
 }
 
 // The text of an offset, which may be of any value.

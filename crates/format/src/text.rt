@@ -1,7 +1,7 @@
 // Making a line of text piece by piece. A piece that does not fit any more is dropped, so that no function that makes
 // a line has to speak of room; that no piece is dropped follows once, from the length of a whole line. Pieces are pushed
 // and not written by `write!`, since what `write!` promises for any writer leaves open whether it succeeds.
-ghost use Rattle.std.specs.Prelude.{◌≡◌, true, [], ◌∷◌, length, decimal, is_some, unwrap_or};
+ghost use Rattle.std.specs.Prelude.{◌≡◌, ◌+◌, ◌%◌, true, [], ◌∷◌, length, decimal, is_some, unwrap_or};
 ghost use Rattle.format.specs.Texts.{held, Adds, spaced, number_or_dash, print_answer, print_after};
 
 use crate::buffer::LineBuffer;
@@ -34,6 +34,13 @@ impl LineBuffer {
         ensures { Adds self.old (decimal n) self.new }
     {
         self.push_all(itoa::Buffer::new().format(n).as_bytes());
+    }
+
+    // The last digit of a number in decimal.
+    pub(crate) fn push_digit(&mut self, n: u32)
+        ensures { Adds self.old (48 + n % 10 ∷ []) self.new }
+    {
+        self.push(b'0' + (n % 10) as u8);
     }
 
     // A number, or a minus where it does not apply, and a space.
