@@ -9,7 +9,8 @@ use machine::{Flight, Host, Settings};
 
 // A board holds the settings of a room, whether it is open, its tick, its hosts, the table of their seats, the writes in
 // flight in order of issue, and how many entries were logged. The tables are of fixed size, so making one takes no memory
-// from anywhere; at most 32 writes are in flight.
+// from anywhere; at most 32 writes are in flight. Hosts and seats are two tables, as in the rules: joined in one, every
+// clause would have to take them apart again.
 #[derive(Drop)]
 pub struct Board {
     pub(crate) settings: Settings,

@@ -1,5 +1,5 @@
 // Try and check: how a host comes to hold a resource.
-ghost use Rattle.std.specs.Prelude.{◌≡◌, ◌<◌, List, length, IfOk, Ok, OnOk};
+ghost use Rattle.std.specs.Prelude.{◌≡◌, ◌<◌, List, [], length, IfOk, Ok, OnOk};
 ghost use Rattle.disk.specs.Model.{DiskModel};
 ghost use Rattle.machine.specs.Claiming.{claiming, granted, tried as tried_of, try_tests, watching as watching_from};
 ghost use Rattle.board.specs.Judging.{claim_of, judged_claim, passed, told};
@@ -35,6 +35,7 @@ impl Board {
         self.claimable(turn.host, seen)?;
         let issued = self.shown(turn.host).reading;
         let term = seen.term + 1;
+        // not refused here: `claimable` has made its tests
         let mark = self.issue(turn, Kind::Owned, term)?;
         self.seats.put(turn, Seat::Claimed { mark, term, issued });
         Ok(Tried::Claimed(mark))
@@ -42,8 +43,8 @@ impl Board {
 
     // The seat watches a record from now on.
     fn watch_record(&mut self, turn: Turn, seen: LeaseRecord) -> Tried
-        ensures answer { (d : DiskModel) (log : List LogEntry) → Ok result ≡ (watching_from (world_over d self.old log) turn.host.number turn.resource seen).answer }
-        ensures world { (d : DiskModel) (log : List LogEntry) → world_over d self.new log ≡ (watching_from (world_over d self.old log) turn.host.number turn.resource seen).world }
+        ensures answer { Ok result ≡ (watching_from (alone_with self.old []) turn.host.number turn.resource seen).answer }
+        ensures room { alone self.new ≡ (watching_from (alone_with self.old []) turn.host.number turn.resource seen).world.room }
     {
         let since = self.shown(turn.host).reading;
         self.seats.put(turn, Seat::Watching { seen, since });

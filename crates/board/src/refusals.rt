@@ -23,7 +23,8 @@ const LAST_STAMP: u32 = 9999;
 // The last term of a resource.
 const LAST_TERM: u32 = 999_999;
 
-// The area is one block long.
+// The area is one block long. A caller's area is taken as it comes, so its length is no part of its type: the contracts of
+// the calls state it.
 pub(crate) fn whole_block(area: &[u8]) -> Result<(), Refusal>
     ensures answer { result ≡ verdict (area_test area.now ∷ []) }
     ensures long { OnOk result (length area.now ≡ 512) }
@@ -109,8 +110,9 @@ impl Board {
         self.standing(host, resource)
     }
 
-    // The log has a place left. The log is a list that is lent with each call, so that it has a place left is a fact about
-    // the board and that list, which no type of one of them can hold: the contracts around it state it.
+    // The log has a place left. By a rule of the project the log is a list that is lent with each call, so this is a fact
+    // about the board and the list, which the type of neither can hold: contracts state it. Tried: a place taken by
+    // `get_mut`; the proof has no name for what is then in the list after the call.
     pub(crate) fn loggable(&self, log: &[LogEntry]) -> Result<(), Refusal>
         ensures answer { result ≡ verdict (log_test (alone_with self.now log.now) ∷ []) }
         ensures place { OnOk result (self.now.logged < length log.now) }

@@ -7,20 +7,6 @@ use Rattle.board.specs.Over.{world_over}
 use Rattle.board.proofs.Verdicts.{unless_passes, unless_refuses}
 use Rattle.board.proofs.board.Board.judge_try.Goals as goal
 
--- nothing was watched
-pub returns-in_default : goal.returns-in_default
-returns-in_default c = record {
-  answer = λ d log. let w = c.watch_record.ensures.answer d log in search rules;
-  world = λ d log. let w = c.watch_record.ensures.world d log in search rules;
-}
-
--- another record was watched
-pub returns-then-ne : goal.returns-then-ne
-returns-then-ne c = record {
-  answer = λ d log. let w = c.watch_record-then-ne.ensures.answer d log in search rules;
-  world = λ d log. let w = c.watch_record-then-ne.ensures.world d log in search rules;
-}
-
 -- the record has not stood still for a lease
 pub returns-in_err-still : goal.returns-in_err-still
 returns-in_err-still c =
