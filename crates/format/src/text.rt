@@ -38,7 +38,7 @@ impl LineBuffer {
 
     // The last digit of a number in decimal.
     pub(crate) fn push_digit(&mut self, n: u32)
-        ensures { Adds self.old (48 + n % 10 ∷ []) self.new }
+        ensures { Adds self.old ((48 + n % 10) ∷ []) self.new }
     {
         self.push(b'0' + (n % 10) as u8);
     }

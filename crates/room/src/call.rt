@@ -3,7 +3,7 @@ use board::WriteName;
 
 // A call of the room with the numbers that it takes. These may be any, since the call tests and refuses them: so there is
 // no type for a host with a resource. The log list and the area are lent with each call, and so are passed beside it.
-#[derive(Clone, Copy)]
+#[derive(Clone, Copy, PartialEq, Eq, Debug)]
 pub enum Call {
     SetClock { host: usize, offset: i32 },
     Open,
