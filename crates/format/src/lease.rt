@@ -34,7 +34,8 @@ pub struct Mark {
     pub stamp: u32,
 }
 
-// What a resource's block says. The fields may hold any numbers; `is_valid` says whether they make a record.
+// What a resource's block says. The fields may hold any numbers; `is_valid` says whether they make a record. The mark is
+// not inside of `Kind::Owned`: a resource that was released is free and keeps mark and term.
 #[derive(Clone, Copy, PartialEq, Eq, Debug, Default)]
 pub struct LeaseRecord {
     pub kind: Kind,

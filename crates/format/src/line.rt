@@ -10,6 +10,7 @@ use crate::events::{Event, LogEntry};
 use crate::offset::{candidate_offset, is_offset, push_offset};
 use disk::Refusal;
 
+// Every event.
 const EVENTS: [Event; 5] = [
     Event::Granted,
     Event::Renewed,
@@ -19,7 +20,7 @@ const EVENTS: [Event; 5] = [
 ];
 
 impl Event {
-    // The word by which a line names the event.
+    // The word by which a line names the event: bytes, and no `Display`, since a line that is read is compared with them.
     fn word(self) -> &'static [u8]
         ensures { result.now ≡ event_word self }
     {
@@ -73,11 +74,7 @@ impl LogEntry {
         ensures buffer { buffer.new ≡ print_after result (line_text self offset) buffer.old }
         ensures differ { LinesDiffer }
     {
-        if !self.is_printable(offset) {
-            buffer.fill(0);
-            return Err(Refusal::BadValue);
-        }
-        line_of(self, offset).copy_to(buffer)
+        line_of(self, offset).copy_if(self.is_printable(offset), buffer)
     }
 
     // The entry and the offset whose line the bytes are; any other bytes are refused.

@@ -51,11 +51,7 @@ pub fn print_offset(offset: i32, buffer: &mut [u8]) -> Result<usize, Refusal>
     ensures answer { result ≡ print_answer (near offset) (offset_text offset) (length buffer.old) }
     ensures buffer { buffer.new ≡ print_after result (offset_text offset) buffer.old }
 {
-    if !is_offset(offset) {
-        buffer.fill(0);
-        return Err(Refusal::BadValue);
-    }
-    offset_line(offset).copy_to(buffer)
+    offset_line(offset).copy_if(is_offset(offset), buffer)
 }
 
 // The value of a decimal digit.

@@ -1,7 +1,7 @@
 // Making a line of text piece by piece. A piece that does not fit any more is dropped, so that no function that makes
 // a line has to speak of room; that no piece is dropped follows once, from the length of a whole line. Pieces are pushed
 // and not written by `write!`, since what `write!` promises for any writer leaves open whether it succeeds.
-ghost use Rattle.std.specs.Prelude.{◌≡◌, ◌+◌, ◌%◌, true, [], ◌∷◌, length, decimal, is_some, unwrap_or};
+ghost use Rattle.std.specs.Prelude.{◌≡◌, ◌+◌, ◌%◌, [], ◌∷◌, length, decimal, is_some, unwrap_or};
 ghost use Rattle.format.specs.Texts.{held, Adds, spaced, number_or_dash, print_answer, print_after};
 
 use crate::buffer::LineBuffer;
@@ -61,18 +61,23 @@ impl LineBuffer {
         self.bytes.as_slice()
     }
 
-    // Copies the text to the front of a buffer; one that is too short is zeroed.
-    pub(crate) fn copy_to(&self, buffer: &mut [u8]) -> Result<usize, Refusal>
-        ensures answer { result ≡ print_answer true (held self.now) (length buffer.old) }
+    // Copies the text to the front of a buffer, if it tells values in range and the buffer is long enough; otherwise the
+    // buffer is zeroed.
+    pub(crate) fn copy_if(&self, in_range: bool, buffer: &mut [u8]) -> Result<usize, Refusal>
+        ensures answer { result ≡ print_answer in_range (held self.now) (length buffer.old) }
         ensures buffer { buffer.new ≡ print_after result (held self.now) buffer.old }
     {
         let text = self.text();
         let len = text.len();
-        if buffer.len() < len {
-            buffer.fill(0);
-            return Err(Refusal::BufferShort);
+        if in_range && len <= buffer.len() {
+            buffer[..len].copy_from_slice(text);
+            return Ok(len);
         }
-        buffer[..len].copy_from_slice(text);
-        Ok(len)
+        buffer.fill(0);
+        Err(if in_range {
+            Refusal::BufferShort
+        } else {
+            Refusal::BadValue
+        })
     }
 }
