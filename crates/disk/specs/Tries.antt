@@ -1,8 +1,8 @@
--- A call that is made again while it FailedCall.
+-- A call that is made again while it fails.
 use Rattle.std.specs.Prelude.{◌≡◌, ℕ, ◌+◌, ◌<◌, false, List, length, is_ok, Result}
 use Rattle.std.specs.List.{FoldsTo}
 
--- a call that FailedCall, where `step` tells what calls answer and how they change the state
+-- a call that fails, where `step` tells what calls answer and how they change the state
 abbrev pub FailedCall : {F R E : Type 0} → (F → Result R E → F → Type 0) → F → Result R E → F → Type 0
 FailedCall step p answer q = step p answer q × (is_ok answer ≡ false)
 
