@@ -33,7 +33,11 @@ Leaves Q o = (f : Fault) → o.answer ≡ Err f → Q o.world
 abbrev Tallied : {A : Type 0} → World → Outcome A → Type 0
 Tallied w o = Leaves (WithDisk SameBytes w) o
 
--- a refusal by a test leaves the world, and what goes well is no refusal
+-- an answer is no refusal
+no_refusal : {A B : Type 0} {x : A} {f : Fault} → ◌≡◌ {A = Result A Fault} (Ok x) (Err f) → B
+no_refusal e = cc
+
+-- a refusal by a test leaves the world
 module _ (Q : World → Type 0) (w : World) (here : Q w) where
   tested : {A : Type 0} (o : Outcome A) (xs : List (Bool × Refusal)) → Leaves Q o → Leaves Q (unless w xs o)
   tested o xs n = unless_elim (Leaves Q) w o xs (λ _ _ _. here) (λ _. n)
@@ -41,20 +45,20 @@ module _ (Q : World → Type 0) (w : World) (here : Q w) where
   -- what a try comes to, once the block is read
   tried_leaves : (h r : ℕ) (x : LeaseRecord) → Leaves Q (tried h r w x)
   tried_leaves h r x =
-      let claims : Leaves Q (claiming w h r x) = tested _ (claim_tests w.room h x) (λ f e. cc) in
+      let claims : Leaves Q (claiming w h r x) = tested _ (claim_tests w.room h x) (λ f e. no_refusal e) in
       by_kind (Leaves Q) x.kind (claiming w h r x) _ (λ _. claims)
-      (λ _. by_option (Leaves Q) (watched (seat_at w.room h r)) (watching w h r x) _ (λ _ f e. cc)
-      (λ y _. cond_both (same_record x y.seen) _ (watching w h r x) (Leaves Q) (λ _. tested (claiming w h r x) (still_tests w.room h y.since) claims) (λ _ f e. cc)))
+      (λ _. by_option (Leaves Q) (watched (seat_at w.room h r)) (watching w h r x) _ (λ _ f e. no_refusal e)
+      (λ y _. cond_both (same_record x y.seen) _ (watching w h r x) (Leaves Q) (λ _. tested (claiming w h r x) (still_tests w.room h y.since) claims) (λ _ f e. no_refusal e)))
 
   -- what a check comes to
   checked_leaves : (h r : ℕ) (y : Claim) (x : LeaseRecord) → Leaves Q (checked h r y w x)
-  checked_leaves h r y x = cond_both (same_record x (record { kind = Owned; resource = r; mark = y.mark; term = y.term })) (granted w h r y) _ (Leaves Q) (λ _ f e. cc) (λ _ f e. cc)
+  checked_leaves h r y x = cond_both (same_record x (record { kind = Owned; resource = r; mark = y.mark; term = y.term })) (granted w h r y) _ (Leaves Q) (λ _ f e. no_refusal e) (λ _ f e. no_refusal e)
 
   -- and a confirm
   confirmed_leaves : (h r : ℕ) (y : Hold) (p : Pending) (x : LeaseRecord) → Leaves Q (confirmed h r y p w x)
   confirmed_leaves h r y p x =
-      cond_both (same_mark x.mark p.mark) (extended w h r y p) _ (Leaves Q) (λ _ f e. cc)
-      (λ _. cond_both (is_own w.room h x) (refused w NotLanded 0) _ (Leaves Q) (λ _ f e. here) (λ _ f e. cc))
+      cond_both (same_mark x.mark p.mark) (extended w h r y p) _ (Leaves Q) (λ _ f e. no_refusal e)
+      (λ _. cond_both (is_own w.room h x) (refused w NotLanded 0) _ (Leaves Q) (λ _ f e. here) (λ _ f e. no_refusal e))
 
 -- nothing has changed
 unchanged : (w : World) → WithDisk SameBytes w w
@@ -81,7 +85,7 @@ written_tallied w r bytes next never =
 
 -- an opening that stops has formatted the blocks before
 formatted : (w : World) (r left : ℕ) → Leaves (WithDisk Formatted w) (formatting w r left)
-formatted w r ℕ.zero = λ f e. cc
+formatted w r ℕ.zero = λ f e. no_refusal e
 formatted w r (ℕ.suc left) =
     writing_elim (Leaves (WithDisk Formatted w)) w r new (λ v. formatting v (r + 1) left) (λ g is f e. (after_write d r new, t.same, now, refl))
     (λ ok f e. let (x, same, bytes, world) = formatted (written_at w r new) (r + 1) left f e in (
@@ -126,7 +130,7 @@ module _ (w : World) where
 -- every refused call
 pub refused_keeps : RefusedKeeps
 unfolding open_call try_call check_call confirm_call land_call spoil_call
-refused_keeps w (set_clock h z) = kept w of_done _ (set_clock_call w h z) (first w _ (clock_tests w.room h z) (λ f e. cc))
+refused_keeps w (set_clock h z) = kept w of_done _ (set_clock_call w h z) (first w _ (clock_tests w.room h z) (λ f e. no_refusal e))
 refused_keeps w (open_room area) = λ f e.
     let Q = WithDisk Formatted w in
     let here : Q w = (w.room.disk, record { height = refl; blocks = refl; homes = λ r. refl }, λ r. inl refl, refl) in
@@ -137,7 +141,7 @@ refused_keeps w (open_room area) = λ f e.
       tested Q w here _ (area_test area ∷ (w.room.opened, NotOpen) ∷ [])
           (cond_both (ltb (length w.room.disk.blocks) n) _ _ (Leaves Q) (λ _ _ _. here) (λ _. formatted w 0 n)) f (back of_done (open_call w area).answer f e),
     )
-refused_keeps w tick = kept w of_done _ (tick_call w) (first w _ (tick_tests w.room) (λ f e. cc))
+refused_keeps w tick = kept w of_done _ (tick_call w) (first w _ (tick_tests w.room) (λ f e. no_refusal e))
 refused_keeps w (try h r area) =
     kept w of_tried _ (try_call w h r area)
     (first w _ (try_tests w.room h r area) (read_tallied w r (tried h r) (λ read. tried_leaves (WithDisk SameBytes w) (read_at w r) read h r)))
@@ -148,7 +152,7 @@ refused_keeps w (check h r area) =
     (λ x. first w _ (check_tests w h x.issued) (read_tallied w r (checked h r x) (λ read. checked_leaves (WithDisk SameBytes w) (read_at w r) read h r x)))))
 refused_keeps w (renew h r) =
     kept w of_mark _ (renew_call w h r)
-    (first w _ (standing w.room h r) (found w (hold (seat_at w.room h r)) WrongSeat _ (λ x. first w _ (late w.room h x ∷ issue_tests w.room h) (λ f e. cc))))
+    (first w _ (standing w.room h r) (found w (hold (seat_at w.room h r)) WrongSeat _ (λ x. first w _ (late w.room h x ∷ issue_tests w.room h) (λ f e. no_refusal e))))
 refused_keeps w (confirm h r area) =
     kept w of_confirmed _ (confirm_call w h r area)
     (first w _ (area_test area ∷ standing w.room h r)
@@ -157,22 +161,22 @@ refused_keeps w (confirm h r area) =
     (λ p. first w _ (log_test w ∷ late w.room h x ∷ []) (read_tallied w r (confirmed h r x p) (λ read. confirmed_leaves (WithDisk SameBytes w) (read_at w r) read h r x p))))))
 refused_keeps w (release h r) =
     kept w of_mark _ (release_call w h r)
-    (first w _ (standing w.room h r) (found w (hold (seat_at w.room h r)) WrongSeat _ (λ x. first w _ (log_test w ∷ late w.room h x ∷ issue_tests w.room h) (λ f e. cc))))
+    (first w _ (standing w.room h r) (found w (hold (seat_at w.room h r)) WrongSeat _ (λ x. first w _ (log_test w ∷ late w.room h x ∷ issue_tests w.room h) (λ f e. no_refusal e))))
 refused_keeps w (watch h r) =
     kept w of_done _ (watch_call w h r)
     (first w _ (standing w.room h r)
     (by_option (Tallied w) (hold (seat_at w.room h r)) _ _
-    (λ _. found w (claim (seat_at w.room h r)) WrongSeat _ (λ x. first w _ (leave_tests w h x) (λ f e. cc)))
-    (λ x _. first w _ (expire_tests w h x) (λ f e. cc))))
+    (λ _. found w (claim (seat_at w.room h r)) WrongSeat _ (λ x. first w _ (leave_tests w h x) (λ f e. no_refusal e)))
+    (λ x _. first w _ (expire_tests w h x) (λ f e. no_refusal e))))
 refused_keeps w (land x area) =
     kept w of_done _ (land_call w x area)
     (first w _ (area_test area ∷ (not w.room.opened, NotOpen) ∷ [])
     (found w (find x w.room.flights) NoSuchWrite _
-    (λ g. written_tallied w g.body.resource (block_of g.body) (λ v. done (at_room v (with_flights v.room (removed x w.room.flights)))) (λ f e. cc))))
+    (λ g. written_tallied w g.body.resource (block_of g.body) (λ v. done (at_room v (with_flights v.room (removed x w.room.flights)))) (λ f e. no_refusal e))))
 refused_keeps w (lose x) =
     kept w of_done _ (lose_call w x)
     (first w _ ((not w.room.opened, NotOpen) ∷ []) (found w (find x w.room.flights) NoSuchWrite _ (λ g f e. cc)))
 refused_keeps w (spoil r area) =
-    kept w of_done _ (spoil_call w r area) (first w _ (spoil_tests w.room r area) (written_tallied w r spoiled_block done (λ f e. cc)))
-refused_keeps w (crash h) = kept w of_done _ (crash_call w h) (first w _ (crash_tests w h) (λ f e. cc))
-refused_keeps w (restart h) = kept w of_done _ (restart_call w h) (first w _ (restart_tests w.room h) (λ f e. cc))
+    kept w of_done _ (spoil_call w r area) (first w _ (spoil_tests w.room r area) (written_tallied w r spoiled_block done (λ f e. no_refusal e)))
+refused_keeps w (crash h) = kept w of_done _ (crash_call w h) (first w _ (crash_tests w h) (λ f e. no_refusal e))
+refused_keeps w (restart h) = kept w of_done _ (restart_call w h) (first w _ (restart_tests w.room h) (λ f e. no_refusal e))
