@@ -10,7 +10,7 @@ use arrayvec::ArrayVec;
 use format::Tick;
 use machine::{Host, Settings};
 
-// A host that has done nothing yet.
+// A host that has done nothing yet. No derived `Default`: it is up, in its first generation.
 const NEW_HOST: Host = Host {
     offset: 0,
     up: true,

@@ -20,6 +20,7 @@ impl Board {
         ensures world { (d : DiskModel) (log : List LogEntry) → world_over d self.new log ≡ (renew_call (world_over d self.old log) host resource).world }
     {
         let turn = self.standing(host, resource)?;
+        // the pattern stands in each call that needs a held seat: a shared function would need one more struct of its fields
         let Seat::Held { term, until, .. } = self.seats.at(turn) else {
             return Err(Refusal::WrongSeat);
         };

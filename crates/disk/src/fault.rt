@@ -57,6 +57,7 @@ pub struct Fault {
 }
 
 impl Refusal {
+    // The number by which the cause is reported. A method of this name is plainer at a call than `u8::from`.
     pub fn number(self) -> u8
         ensures { result ≡ refusal_number self }
     {

@@ -10,6 +10,7 @@ use crate::fault::{Fault, Refusal};
 use crate::plain::PlainImage;
 use crate::tally::Tally;
 
+// Bytes and tallies are two lists, since the caller lends them as two.
 #[derive(Drop)]
 pub struct TiredImage<'a> {
     image: PlainImage<'a>,

@@ -49,7 +49,8 @@ impl Event {
 }
 
 impl LogEntry {
-    // Whether every field, and the offset of the entry's host, is in range.
+    // Whether every field, and the offset of the entry's host, is in range. The offset is passed beside the entry here and
+    // below: an entry of the log has none.
     pub fn is_printable(self, offset: i32) -> bool
         ensures { result ≡ printable self offset }
     {
@@ -157,6 +158,7 @@ fn small_number_in(field: &[u8]) -> Option<u8>
 fn event_in(word: &[u8]) -> Option<Event>
     ensures { MatchOption result ((v : Event) → word.now ≢ event_word v) (λ v. word.now ≡ event_word v) }
 {
+    // a `for`, since of what `find` answers nothing is proved by itself
     for event in EVENTS {
         if event.word() == word {
             return Some(event);

@@ -1,15 +1,10 @@
 -- One more call of a room that calls have made of a newly founded one.
-use Rattle.std.proofs.Common.{◌≡◌, List, [], ◌∷◌, ◌++◌, sym, refl, ap, ◌∙◌, subst}
+use Rattle.std.proofs.Common.{◌≡◌, List, [], ◌∷◌, ◌++◌, sym, ap, ◌∙◌, subst}
 use Rattle.machine.specs.Room.{World}
 use Rattle.machine.specs.Calls.{Call, after, perform}
 use Rattle.machine.specs.Soundness.{Grants, Sound, fresh_world}
-use Rattle.machine.proofs.Runs.{stays_sound_lem}
+use Rattle.machine.proofs.Runs.{after_append, stays_sound_lem}
 use Rattle.room.specs.Runs.{StaysSoundBy}
-
--- one part of a run after another
-after_append : (w : World) (xs ys : List Call) → after w (xs ++ ys) ≡ after (after w xs) ys
-after_append w [] ys = refl
-after_append w (x ∷ xs) ys = after_append (perform x w).world xs ys
 
 -- it is a run again, and sound
 pub stays_sound_by : (last : Call) (v w : World) → w ≡ (perform last v).world → StaysSoundBy last v w

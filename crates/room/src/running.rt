@@ -11,7 +11,7 @@ use format::LogEntry;
 use machine::Answer;
 
 impl<D: Disk> Room<D> {
-    // Makes a call.
+    // Makes a call. What is to be done comes from outside as data, so it is chosen by a `match`.
     fn make(&mut self, call: Call, log: &mut [LogEntry], area: &mut [u8]) -> Result<Answer, Fault>
         ensures answer { result ≡ (performed_by (call_of call area.old) (as_world D.Disk.meaning self.old log.old)).answer }
         ensures world { as_world D.Disk.meaning self.new log.new ≡ (performed_by (call_of call area.old) (as_world D.Disk.meaning self.old log.old)).world }

@@ -17,7 +17,8 @@ use room::{Call, Room};
 use std::io;
 use step::{RESOURCE, Stage};
 
-// What stands in the log list before anything is logged.
+// What stands in the log list before anything is logged. No derived `Default`: no event is the one that an entry has by
+// itself.
 const NO_ENTRY: LogEntry = LogEntry {
     tick: Tick(0),
     event: Event::Granted,

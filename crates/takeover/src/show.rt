@@ -6,7 +6,7 @@ use machine::Answer;
 use std::fmt;
 
 // An answer, which prints in words.
-#[derive(Clone, Copy)]
+#[derive(Clone, Copy, PartialEq, Eq, Debug)]
 pub(crate) struct Told(pub(crate) Answer);
 
 impl fmt::Display for Told {
