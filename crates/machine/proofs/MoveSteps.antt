@@ -5,6 +5,7 @@ use Rattle.format.specs.declared.lease.Mark.{Mark}
 use Rattle.format.specs.declared.lease.LeaseRecord.{LeaseRecord}
 use Rattle.machine.specs.declared.types.Flight.{Flight}
 use Rattle.machine.specs.declared.settings.Settings.{Settings}
+use Rattle.format.specs.declared.events.LogEntry.{LogEntry}
 use Rattle.format.specs.declared.events.Event.TheVariants as events
 use Rattle.machine.specs.View.{Asked, Place, idle, claimed, held, View, In, claim_record}
 use Rattle.machine.specs.Moves.{vacant, Turn, Unlogged, Logged, note, Unsent, Sent, Open, Still, Unwritten, Move}
@@ -211,3 +212,31 @@ move_keeps s V W c (Move.returns h down up next used others now seats blocks l n
       | inl d ↦ inr (omega (arith, ap V.gen d, ap W.gen d), λ q. seats g q ∙ c.down_idle (ap V.up d ∙ down))
       | inr d ↦ inl (others.gens g d, omega arith)
     ]) l)
+
+-- no move forgets a grant
+logged_top : (V W : View) (e : LogEntry) → Logged V W e → (q : ℕ) → V.top q ≤ W.top q
+logged_top V W e l q = omega (arith, l.tops q)
+
+-- nor does what logs nothing
+unlogged_top : (V W : View) → Unlogged V W → (q : ℕ) → V.top q ≤ W.top q
+unlogged_top V W l q = omega (arith, l.tops q)
+
+-- so no move does
+pub move_tops : (s : Settings) (V W : View) → Move s V W → (q : ℕ) → V.top q ≤ W.top q
+move_tops s V W (Move.rests e) q = let n = ap (λ (X : View). X.top q) e in omega arith
+move_tops s V W (Move.sets a t n blocks) q = unlogged_top V W t.unlogged q
+move_tops s V W (Move.opens a t n known old) q = unlogged_top V W t.unlogged q
+move_tops s V W (Move.passes now ups gens stamps seats l blocks flights others) q = unlogged_top V W l q
+move_tops s V W (Move.loses f t g blocks) q = unlogged_top V W t.unlogged q
+move_tops s V W (Move.lands f t g blocks) q = unlogged_top V W t.unlogged q
+move_tops s V W (Move.spoils r t n blocks) q = unlogged_top V W t.unlogged q
+move_tops s V W (Move.notes h r x t l n v b) q = unlogged_top V W l q
+move_tops s V W (Move.claims h r m x t l n v b o) q = unlogged_top V W l q
+move_tops s V W (Move.grants h r m k i t l n v b early soon) q = logged_top V W _ l q
+move_tops s V W (Move.renews h r m k u p t l n v soon) q = unlogged_top V W l q
+move_tops s V W (Move.confirms h r k u a x t l n v soon b m) q = logged_top V W _ l q
+move_tops s V W (Move.releases h r m k u p t l n v soon) q = logged_top V W _ l q
+move_tops s V W (Move.leaves h r m k i t l n v early) q = unlogged_top V W l q
+move_tops s V W (Move.expires h r k u p t l n v over) q = logged_top V W _ l q
+move_tops s V W (Move.crashes h up down now gens seats blocks l n) q = logged_top V W _ l q
+move_tops s V W (Move.returns h down up next used others now seats blocks l n) q = unlogged_top V W l q
