@@ -35,7 +35,7 @@ impl Board {
         self.claimable(turn.host, seen)?;
         let issued = self.shown(turn.host).reading;
         let term = seen.term + 1;
-        // not refused here: `claimable` has made its tests
+        // not refused here: `claimable` has made these tests, since the term is tested behind them
         let mark = self.issue(turn, Kind::Owned, term)?;
         self.seats.put(turn, Seat::Claimed { mark, term, issued });
         Ok(Tried::Claimed(mark))

@@ -20,7 +20,8 @@ impl Board {
         ensures world { (d : DiskModel) (log : List LogEntry) → world_over d self.new log ≡ (renew_call (world_over d self.old log) host resource).world }
     {
         let turn = self.standing(host, resource)?;
-        // the pattern stands in each call that needs a held seat: a shared function would need one more struct of its fields
+        // the pattern stands in each call that needs a held seat: a shared function would answer a tuple of its fields, and
+        // its contract would take the seat apart once more
         let Seat::Held { term, until, .. } = self.seats.at(turn) else {
             return Err(Refusal::WrongSeat);
         };
@@ -53,12 +54,9 @@ impl Board {
         let Seat::Held {
             term,
             until,
-            pending,
+            pending: Some(pending),
         } = self.seats.at(turn)
         else {
-            return Err(Refusal::WrongSeat);
-        };
-        let Some(pending) = pending else {
             return Err(Refusal::WrongSeat);
         };
         self.confirmable(turn.host, until, log)?;

@@ -1,7 +1,7 @@
 // The tests by which calls refuse, in the order of the rules.
-ghost use Rattle.std.specs.Prelude.{◌≡◌, ◌<◌, not, [], ◌∷◌, length, IfOk, OnOk, nat_lt};
-ghost use Rattle.disk.specs.declared.fault.Refusal.TheVariants.{HostDown, NoSuchHostOrResource, NotOpen};
-ghost use Rattle.machine.specs.Room.{host_at};
+ghost use Rattle.std.specs.Prelude.{◌≡◌, ◌<◌, not, [], ◌∷◌, length, IfOk, OnOk, int_lt, nat_lt};
+ghost use Rattle.disk.specs.declared.fault.Refusal.TheVariants.{Early, HostDown, NoSuchHostOrResource, NotOpen};
+ghost use Rattle.machine.specs.Room.{host_at, reading as reading_of};
 ghost use Rattle.machine.specs.Outcomes.{area_test, log_test, standing as standing_tests};
 ghost use Rattle.machine.specs.Steps.{issue_tests};
 ghost use Rattle.machine.specs.Claiming.{check_tests, claim_tests, still_tests};
@@ -133,6 +133,16 @@ impl Board {
         Ok(())
     }
 
+    // The clock of the host has come to this reading.
+    pub(crate) fn reached(&self, host: HostNumber, reading: Reading) -> Result<(), Refusal>
+        ensures { result ≡ verdict ((int_lt (reading_of (alone self.now) host.number) reading.0, Early) ∷ []) }
+    {
+        if self.shown(host).reading < reading {
+            return Err(Refusal::Early);
+        }
+        Ok(())
+    }
+
     // Another write can be put in flight.
     pub(crate) fn issuable(&self, host: HostNumber) -> Result<(), Refusal>
         ensures answer { result ≡ verdict (issue_tests (alone self.now) host.number) }
@@ -172,10 +182,7 @@ impl Board {
         ensures place { OnOk result (self.now.logged < length log.now) }
     {
         self.loggable(log)?;
-        if self.shown(host).reading < end {
-            return Err(Refusal::Early);
-        }
-        Ok(())
+        self.reached(host, end)
     }
 
     // A claim of this reading is neither too young to be checked nor over, and the log has a place left.
@@ -190,14 +197,8 @@ impl Board {
     {
         self.loggable(log)?;
         let Settings { delay, lease, .. } = self.settings;
-        let reading = self.shown(host).reading;
-        if reading < issued.later(2 * delay + 1) {
-            return Err(Refusal::Early);
-        }
-        if reading >= issued.later(lease) {
-            return Err(Refusal::Late);
-        }
-        Ok(())
+        self.reached(host, issued.later(2 * delay + 1))?;
+        self.in_time(host, issued.later(lease))
     }
 
     // A claim above the term of this record can be put in flight.
@@ -216,9 +217,6 @@ impl Board {
     pub(crate) fn still(&self, host: HostNumber, since: ShownReading) -> Result<(), Refusal>
         ensures { result ≡ verdict (still_tests (alone self.now) host.number since.reading.0) }
     {
-        if self.shown(host).reading < since.later(self.settings.lease) {
-            return Err(Refusal::Early);
-        }
-        Ok(())
+        self.reached(host, since.later(self.settings.lease))
     }
 }

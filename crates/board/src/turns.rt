@@ -28,7 +28,8 @@ pub struct ClaimToCheck {
     pub(crate) issued: ShownReading,
 }
 
-// A pending renewal that may be judged by the record in the block of its resource.
+// A pending renewal that may be judged by the record in the block of its resource. A type of its own, though its fields
+// are those of a claim: so a claim cannot be confirmed, nor a renewal checked.
 #[derive(Clone, Copy, PartialEq, Eq, Debug)]
 pub struct RenewalToConfirm {
     pub(crate) turn: Turn,

@@ -54,7 +54,8 @@ impl Disk for PlainImage<'_> {
 
     fn write(&mut self, number: usize, area: &[u8]) -> Result<(), Fault> {
         admit(number, area.len(), self.count(), 0)?;
-        // the range once more, as in `block`: what bytes are after a chunk of `as_chunks_mut` is written is not promised
+        // the range once more, as in `block`: what bytes are after a chunk of `as_chunks_mut` is written is not promised, and
+        // a function that answers the range would only state its bounds once more
         let start = number * BLOCK_LENGTH;
         self.bytes[start..start + BLOCK_LENGTH].copy_from_slice(area);
         Ok(())

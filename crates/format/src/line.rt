@@ -137,7 +137,7 @@ fn split_field(text: &[u8]) -> Option<(&[u8], &[u8])>
     Some((&text[..end], &text[end + 1..]))
 }
 
-// The number of a field, 0 for a minus.
+// The number of a field; 0 for a minus, as a field of an entry that does not apply is 0.
 fn number_in(field: &[u8]) -> Option<u32>
     ensures { MatchOption result ((applies : Bool) (n : ℕ) → n < 10 ^ 9 → field.now ≢ number_or_dash applies n) (λ k. (applies : Bool) (n : ℕ) → n < 10 ^ 9 → (applies ≡ false → n ≡ 0) → field.now ≡ number_or_dash applies n → k ≡ n) }
 {
@@ -158,7 +158,7 @@ fn small_number_in(field: &[u8]) -> Option<u8>
 fn event_in(word: &[u8]) -> Option<Event>
     ensures { MatchOption result ((v : Event) → word.now ≢ event_word v) (λ v. word.now ≡ event_word v) }
 {
-    // a `for`, since of what `find` answers nothing is proved by itself
+    // a `for`: what `find` promises is about the run of an iterator, and the check does not come from there to the clause
     for event in EVENTS {
         if event.word() == word {
             return Some(event);

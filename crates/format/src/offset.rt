@@ -24,7 +24,7 @@ fn sign_byte(offset: i32) -> u8
     if offset < 0 { b'-' } else { b'+' }
 }
 
-// Adds an offset to a line.
+// Adds an offset to a line; pushed like all pieces of a line, and no `Display` (`text` says why).
 pub(crate) fn push_offset(line: &mut LineBuffer, offset: i32)
     ensures { Adds line.old (offset_text offset) line.new }
 {

@@ -48,7 +48,7 @@ pub struct Flight {
     pub issued: Tick,
 }
 
-// What a try answers; no `Option<Mark>`, since what it answers without a mark is that it watches.
+// What a try answers; no `Option<Mark>`: the rules name both answers, and `None` would not say that the host watches.
 #[derive(Clone, Copy, PartialEq, Eq, Debug)]
 pub enum Tried {
     Watching,

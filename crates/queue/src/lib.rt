@@ -35,6 +35,7 @@ impl<T> Due for Deadline<T> {
 
 // A queue over a list that the caller lends. The first `count` places hold the entries, in the order in which they are
 // handed out; what the others hold does not matter.
+// `T: Due` stands at the type, since the order is an invariant of it.
 #[derive(Drop)]
 pub struct Queue<'a, T: Due> {
     list: &'a mut [T],

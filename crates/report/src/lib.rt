@@ -21,6 +21,7 @@ impl LogReport {
     fn reads_back(self, line: &[u8]) -> bool
         ensures { Decides result (PrintsLine self.entry self.offset line.now) }
     {
+        // a `match`: with `is_ok_and` the proof did not close
         match LogEntry::parse(line) {
             Ok(read) => read == (self.entry, self.offset),
             Err(_) => false,

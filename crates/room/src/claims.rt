@@ -17,6 +17,7 @@ impl<D: Disk> Room<D> {
         ensures area { area.new ≡ zeros area.old }
         ensures outside { D.Disk.outside self.new.disk ≡ D.Disk.outside self.old.disk }
     {
+        // test, read, judge, as in check and confirm: two calls and two `?`, so plainer than one function that takes closures
         let tested = self.board.turn_to_try(host, resource, area);
         let turn = self.admit(tested, area)?;
         let seen = read_record(&mut self.disk, resource, area)?;

@@ -22,7 +22,8 @@ impl<D: Disk> Room<D> {
         answer.map_err(|cause| cause.at(0, self.height()))
     }
 
-    // The same before the disk is touched: a refusal zeroes the area. No `inspect_err`: after it nothing would be known of
+    // The same before the disk is touched: a refusal zeroes the area. Written here and in the disk's reads: a shared
+    // function would be one more public one, for three lines. No `inspect_err`: after it nothing would be known of
     // the area, which its closure borrows.
     pub(crate) fn admit<T>(&self, answer: Result<T, Refusal>, area: &mut [u8]) -> Result<T, Fault>
         ensures answer { result ≡ raised (as_room D.Disk.meaning self.now) answer }

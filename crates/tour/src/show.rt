@@ -5,7 +5,7 @@ use disk::{BLOCK_LENGTH, Fault, Tally};
 use format::{Kind, LeaseRecord};
 use std::io;
 
-// The bytes of a block that hold its record.
+// The bytes of a block that hold its record; `format` keeps its own number to itself.
 const RECORD_LENGTH: usize = 20;
 
 // The blocks of the image that fail at times.
