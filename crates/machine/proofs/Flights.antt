@@ -26,6 +26,11 @@ pub apart_push : (f : Flight) (fs : List Flight) → Apart fs → ((g : Flight) 
 apart_push f [] a n = (λ g i. elim i [ ], tt)
 apart_push f (e ∷ fs) a n = (λ g i same. elim (in_push g f fs i) [ inl j ↦ a.0 g j same | inr j ↦ n e here (sym (rw j at same)) ], apart_push f fs a.1 (λ g i. n g (there i)))
 
+-- a list that lost writes behind its first
+in_cons : (g f : Flight) (ys fs : List Flight) → (In g ys → In g fs) → In g (f ∷ ys) → In g (f ∷ fs)
+in_cons g f ys fs n here = here
+in_cons g f ys fs n (there i) = there (n i)
+
 -- the write that a mark names, and what is left without it
 module _ (m : Mark) where
   pub find_in : (f : Flight) (fs : List Flight) → find m fs ≡ Some f → In f fs × (f.body.mark ≡ m)
@@ -36,7 +41,14 @@ module _ (m : Mark) where
       go n true i = let q : g ≡ f = cc in (subst (λ (z : Flight). In z (g ∷ fs)) q here, ap (λ (z : Flight). z.body.mark) (sym q) ∙ mark_same g.body.mark m i)
       go n false i = let q : find m fs ≡ Some f = cc in (there (n q).0, (n q).1)
 
-  -- what is left was there, and has another mark
+  -- what is left was there
+  pub removed_was : (g : Flight) (fs : List Flight) → In g (removed m fs) → In g fs
+  removed_was g [] = λ i. i
+  removed_was g (f ∷ fs) =
+      let n = removed_was g fs in
+      cond_both (same_mark f.body.mark m) fs (f ∷ removed m fs) (λ (ys : List Flight). In g ys → In g (f ∷ fs)) (λ _ i. there i) (λ _ i. in_cons g f (removed m fs) fs n i)
+
+  -- and has another mark, where marks are apart
   pub removed_in : (g : Flight) (fs : List Flight) → Apart fs → In g (removed m fs) → In g fs × (g.body.mark ≡ m → ⊥)
   removed_in g [] a = λ i. elim i [ ]
   removed_in g (f ∷ fs) a =
@@ -54,7 +66,7 @@ module _ (m : Mark) where
   removed_apart [] a = a
   removed_apart (f ∷ fs) a =
       let n = removed_apart fs a.1 in
-      cond_both (same_mark f.body.mark m) fs (f ∷ removed m fs) Apart (λ _. a.1) (λ _. (λ g i. a.0 g (removed_in g fs a.1 i).0, n))
+      cond_both (same_mark f.body.mark m) fs (f ∷ removed m fs) Apart (λ _. a.1) (λ _. (λ g i. a.0 g (removed_was g fs i), n))
 
   -- a write of another mark stays
   pub removed_stays : (g : Flight) (fs : List Flight) → In g fs → (g.body.mark ≡ m → ⊥) → In g (removed m fs)

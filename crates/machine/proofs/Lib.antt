@@ -1,3 +1,4 @@
+pub mod Bounds
 pub mod Clash
 pub mod Places
 pub mod Same

@@ -1,14 +1,15 @@
 -- Each move of a room is a step, so it keeps the core, and forgets no grant.
 use Rattle.std.proofs.Common.{◌≡◌, ℕ, ◌+◌, ◌*◌, ◌<◌, ◌≤◌, true, false, ◌⊎◌, Some, None, Option, sym, refl, ap, ◌∙◌, subst, inl, inr, arith}
 use Rattle.std.proofs.lemmas.Bool.{cases_eq, eq-eqb, ne_eqb}
+use Rattle.format.specs.declared.lease.Kind.TheVariants.{Free}
 use Rattle.format.specs.declared.lease.Mark.{Mark}
 use Rattle.format.specs.declared.lease.LeaseRecord.{LeaseRecord}
 use Rattle.machine.specs.declared.types.Flight.{Flight}
 use Rattle.machine.specs.declared.settings.Settings.{Settings}
 use Rattle.format.specs.declared.events.LogEntry.{LogEntry}
 use Rattle.format.specs.declared.events.Event.TheVariants as events
-use Rattle.machine.specs.View.{Asked, Place, idle, claimed, held, View, In, claim_record}
-use Rattle.machine.specs.Moves.{vacant, Turn, Unlogged, Logged, note, Unsent, Sent, Open, Still, Unwritten, Move}
+use Rattle.machine.specs.View.{watching, Asked, Place, idle, claimed, held, View, In, claim_record}
+use Rattle.machine.specs.Moves.{vacant, Turn, Unlogged, Logged, note, Unsent, Sent, Open, Still, Unwritten, Changed, Move}
 use Rattle.machine.proofs.Core.{landed, Ours, Core}
 use Rattle.machine.proofs.Step.{Issued, Landed, Claims, kept, renewing, renewed, granted, Granting, Step}
 use Rattle.machine.proofs.StepKeeps.{step_keeps}
@@ -17,6 +18,28 @@ use Rattle.machine.proofs.CoreFacts.{sole, hold_claim, open_vacant, open_unclaim
 use Rattle.machine.proofs.TurnEffects.{is_held, vacant_held, back, calm_course, turn_course, turn_watches, turn_claims, turn_holds, turn_names, unsent, sent, sent_new, sent_used, over_step, over_seats, begun_step}
 
 module _ {s : Settings} {V W : View} (c : Core s V) where
+  -- a host notes the record that it read
+  notes_step : {h r : ℕ} {x : LeaseRecord} → Turn V W h r (watching x V.tick) → Unlogged V W → Unsent V W → vacant (V.seat h r) ≡ true → V.block r ≡ Some x → Step s V W
+  notes_step t l n v b = record {
+    course = turn_course t c (unsent n);
+    watches = λ e. elim (back t e) [ inl j ↦ inr (cc, cc) | inr j ↦ inl j.1 ];
+    claims = turn_claims t refl;
+    holds = turn_holds t refl l;
+    tops = λ q. inl (l.tops q);
+    names = turn_names t (vacant_held _ v) l;
+  }
+
+  -- a claim is given up
+  leaves_step : {h r k i : ℕ} {m : Mark} → Turn V W h r idle → Unlogged V W → Unsent V W → V.seat h r ≡ claimed m k i → Step s V W
+  leaves_step t l n v = record {
+    course = turn_course t c (unsent n);
+    watches = turn_watches t refl;
+    claims = turn_claims t refl;
+    holds = turn_holds t refl l;
+    tops = λ q. inl (l.tops q);
+    names = turn_names t (ap is_held v) l;
+  }
+
   -- a host claims over an open record
   claims_step : {h r : ℕ} {m : Mark} {x : LeaseRecord} → Turn V W h r (claimed m (x.term + 1) V.tick) → Unlogged V W → Sent V W h r (claim_record r m (x.term + 1))
       → vacant (V.seat h r) ≡ true → V.block r ≡ Some x → Open s V h r x → Step s V W
@@ -79,10 +102,29 @@ module _ {s : Settings} {V W : View} (c : Core s V) where
     );
   }
 
+  -- a holder releases
+  releases_step : {h r k u at : ℕ} {m : Mark} {p : Option Asked} → Turn V W h r idle → Logged V W (note at events.Released h r k 0) → Sent V W h r (record { kind = Free; resource = r; mark = m; term = k })
+      → V.seat h r ≡ held k u p → V.tick < u → Step s V W
+  releases_step {r = r} t l n v soon =
+      over_step l (turn_course t c (sent n (holder_issues t n v soon (omega (arith, c.hold_top v soon, l.tops r)) (λ g k' u' p' e d. cc))))
+      (λ q. refl) (λ q. refl) (over_seats t)
+
+  -- a lease is over
+  expires_step : {h r k u at : ℕ} {p : Option Asked} → Turn V W h r idle → Logged V W (note at events.Expired h r k 0) → Unsent V W → V.seat h r ≡ held k u p → Step s V W
+  expires_step t l n v = over_step l (turn_course t c (unsent n)) (λ q. refl) (λ q. refl) (over_seats t)
+
+  -- a renewal is confirmed
+  confirms_step : {h r k u at : ℕ} {a : Asked} {x : LeaseRecord} → Turn V W h r (held k (a.at + s.lease) None) → Logged V W (note at events.Renewed h r k (a.at + s.lease)) → Unsent V W
+      → V.seat h r ≡ held k u (Some a) → V.tick < u → V.block r ≡ Some x → x.mark ≡ a.mark → Step s V W
+  confirms_step {u = u} {a = a} {x = x} t l n v soon b m =
+      begun_step l c t n (λ q. refl) (λ g q. refl) (λ g k' u' p e late. sole c e late v soon)
+      (λ here g q k' u' p d f y. renewed a u x (cc) (cc) soon (cc) (cc) m (cc))
+      (λ q. inl (omega arith))
+
   -- a claim is granted
-  grants_step : {h r k i : ℕ} {m : Mark} → Turn V W h r (held k (i + s.lease) None) → Logged V W (note V.tick events.Granted h r k (i + s.lease)) → Unsent V W
+  grants_step : {h r k i at : ℕ} {m : Mark} → Turn V W h r (held k (i + s.lease) None) → Logged V W (note at events.Granted h r k (i + s.lease)) → Unsent V W
       → V.seat h r ≡ claimed m k i → V.block r ≡ Some (claim_record r m k) → i + (2 * s.delay + 1) ≤ V.tick → V.tick < i + s.lease → Step s V W
-  grants_step {h} {r} {k} {i} {m} t l n v b early soon =
+  grants_step {h} {r} {k} {i} {m = m} t l n v b early soon =
       begun_step l c t n (λ q. refl) (λ g q. refl) (λ g k' u' p e late. absurd (hold_claim c e late v (landed b)))
       (λ here g q k' u' p d f y. granted m i (cc) (cc) (let o : claim_record r m k ≡ claim_record q m k' = cc in cc) early soon (cc) (let w = top in cc) (cc))
       (λ q. elim (cases_eq q r) [
@@ -106,6 +148,16 @@ module _ {s : Settings} {V W : View} (c : Core s V) where
         ];
         terms = λ a. omega (arith, top, ap (λ (z : LeaseRecord). z.term) (only_claim c v b early soon a));
       }
+
+  -- a host goes down
+  crashes_step : {h at : ℕ} → W.tick ≡ V.tick → ((g : ℕ) → W.gen g ≡ V.gen g)
+      → ((g q : ℕ) → ((g ≡ h) × (W.seat g q ≡ idle)) ⊎ ((g ≡ h → ⊥) × (W.seat g q ≡ V.seat g q) × (W.up g ≡ V.up g)))
+      → Unwritten V W → Logged V W (note at events.Crashed h 0 0 0) → Unsent V W → Step s V W
+  crashes_step {h} now gens seats blocks l n =
+      over_step l
+      (calm_course c (unsent n) now gens blocks (λ g q e. elim (seats g q) [ inl d ↦ d.1 | inr d ↦ d.1 ∙ c.down_idle (sym d.2 ∙ e) ]))
+      (λ q. refl) (λ q. refl)
+      (λ g q. elim (seats g q) [ inl d ↦ inl (d.1, eq-eqb h g (sym d.0)) | inr d ↦ inr (d.1, ne_eqb h g (λ y. d.0 (sym y))) ])
 
   -- nobody takes a turn: time passes, a write lands or is lost, a block is spoiled, a host comes back
   fades_step : V.tick ≤ W.tick
@@ -141,6 +193,29 @@ module _ {s : Settings} {V W : View} (c : Core s V) where
   as_before : Unwritten V W → (r : ℕ) (y : LeaseRecord) → W.block r ≡ Some y → (V.block r ≡ Some y) ⊎ Landed V W r y
   as_before blocks r y e = inl (sym (blocks r) ∙ e)
 
+  -- a write lands
+  lands_step : {f : Flight} → In f V.flights → W.tick ≡ V.tick → ((g : ℕ) → W.up g ≡ V.up g) → ((g : ℕ) → W.gen g ≡ V.gen g) → ((g : ℕ) → W.stamp g ≡ V.stamp g)
+      → ((g q : ℕ) → W.seat g q ≡ V.seat g q) → Unlogged V W
+      → ((e : Flight) → In e W.flights → In e V.flights × (e.body.mark ≡ f.body.mark → ⊥))
+      → ((q : ℕ) → ((q ≡ f.body.resource) × (W.block q ≡ Some f.body)) ⊎ (W.block q ≡ V.block q)) → Step s V W
+  lands_step {f} was now ups gens stamps seats l flights blocks =
+      still_step (record { tick = now; ups = ups; gens = gens; stamps = stamps; seats = seats; unlogged = l }) (λ e i. (flights e i).0) (λ q y e. elim (blocks q) [
+        | inr d ↦ inl (sym d ∙ e)
+        | inl d ↦ let is : f.body ≡ y = cc in
+            rw (← is) (inr (record { flight = f; was = was; is = refl; there = sym d.0; gone = λ {f = e'} i m. (flights e' i).1 m }))
+      ])
+
+  -- a host that was down comes back
+  returns_step : {h : ℕ} → V.up h ≡ false → W.up h ≡ true → W.gen h ≡ V.gen h + 1 → Changed V W h → W.tick ≡ V.tick
+      → ((g q : ℕ) → W.seat g q ≡ V.seat g q) → Unwritten V W → Unlogged V W → W.flights ≡ V.flights → Step s V W
+  returns_step {h} down up next others now seats blocks l n =
+      fades_step (omega arith) (λ f i. let j = subst (In f) n i in (j, omega arith)) seats (as_before blocks)
+      (λ g e. elim (cases_eq g h) [ inl d ↦ cc | inr d ↦ sym (others.ups g d) ∙ e ])
+      (λ g. elim (cases_eq g h) [
+        | inl d ↦ inr (omega (arith, ap V.gen d, ap W.gen d), λ q. seats g q ∙ c.down_idle (ap V.up d ∙ down))
+        | inr d ↦ inl (others.gens g d, omega arith)
+      ]) l
+
 -- the core is kept, and no grant is forgotten
 abbrev Keeps : Settings → View → View → Type 0
 Keeps s V W = Core s W × ((q : ℕ) → V.top q ≤ W.top q)
@@ -167,51 +242,18 @@ move_keeps s V W c (Move.opens a t n known old) = (
 move_keeps s V W c (Move.passes now ups gens stamps seats l blocks flights others) =
     stepped c (fades_step c (omega arith) flights seats (as_before c blocks) (λ h e. sym (ups h) ∙ e) (λ h. inl (gens h, omega arith)) l)
 move_keeps s V W c (Move.loses f t g blocks) = stepped c (still_step c t (λ e i. (g.flights e i).0) (as_before c blocks))
-move_keeps s V W c (Move.lands f t g blocks) = stepped c (still_step c t (λ e i. (g.flights e i).0) (λ q y e. elim (blocks q) [
-  | inr d ↦ inl (sym d ∙ e)
-  | inl d ↦ let is : f.body ≡ y = cc in
-      rw (← is) (inr (record { flight = f; was = g.was; is = refl; there = sym d.0; gone = λ {f = e'} i m. (g.flights e' i).1 m }))
-]))
+move_keeps s V W c (Move.lands f t g blocks) = stepped c (lands_step c g.was t.tick t.ups t.gens t.stamps t.seats t.unlogged g.flights blocks)
 move_keeps s V W c (Move.spoils r t n blocks) = stepped c (still_step c t (λ f i. subst (In f) n i) (λ q y e. elim (blocks q) [ inl d ↦ cc | inr d ↦ inl (sym d ∙ e) ]))
-move_keeps s V W c (Move.notes h r x t l n v b) = stepped c (record {
-  course = turn_course t c (unsent n);
-  watches = λ e. elim (back t e) [ inl j ↦ inr (cc, cc) | inr j ↦ inl j.1 ];
-  claims = turn_claims t refl;
-  holds = turn_holds t refl l;
-  tops = λ q. inl (l.tops q);
-  names = turn_names t (vacant_held (V.seat h r) v) l;
-})
+move_keeps s V W c (Move.notes h r x t l n v b) = stepped c (notes_step c t l n v b)
 move_keeps s V W c (Move.claims h r m x t l n v b o) = stepped c (claims_step c t l n v b o)
 move_keeps s V W c (Move.grants h r m k i t l n v b early soon) = stepped c (grants_step c t l n v b early soon)
 move_keeps s V W c (Move.renews h r m k u p t l n v soon) = stepped c (renews_step c t l n v soon)
-move_keeps s V W c (Move.confirms h r k u a x t l n v soon b m) =
-    stepped c (begun_step l c t n (λ q. refl) (λ g q. refl) (λ g k' u' p e late. sole c e late v soon)
-    (λ here g q k' u' p d f y. renewed a u x (cc) (cc) soon (cc) (cc) m (cc))
-    (λ q. inl (omega arith)))
-move_keeps s V W c (Move.releases h r m k u p t l n v soon) =
-    stepped c (over_step l (turn_course t c (sent n (holder_issues c t n v soon (omega (arith, c.hold_top v soon, l.tops r)) (λ g k' u' p' e d. cc))))
-    (λ q. refl) (λ q. refl) (over_seats t))
-move_keeps s V W c (Move.leaves h r m k i t l n v early) = stepped c (record {
-  course = turn_course t c (unsent n);
-  watches = turn_watches t refl;
-  claims = turn_claims t refl;
-  holds = turn_holds t refl l;
-  tops = λ q. inl (l.tops q);
-  names = turn_names t (ap is_held v) l;
-})
-move_keeps s V W c (Move.expires h r k u p t l n v over) = stepped c (over_step l (turn_course t c (unsent n)) (λ q. refl) (λ q. refl) (over_seats t))
-move_keeps s V W c (Move.crashes h up down now gens seats blocks l n) =
-    stepped c (over_step l
-    (calm_course c (unsent n) now gens blocks (λ g q e. elim (seats g q) [ inl d ↦ d.1 | inr d ↦ d.1 ∙ c.down_idle (sym d.2 ∙ e) ]))
-    (λ q. refl) (λ q. refl)
-    (λ g q. elim (seats g q) [ inl d ↦ inl (d.1, eq-eqb h g (sym d.0)) | inr d ↦ inr (d.1, ne_eqb h g (λ y. d.0 (sym y))) ]))
-move_keeps s V W c (Move.returns h down up next used others now seats blocks l n) =
-    stepped c (fades_step c (omega arith) (λ f i. let j = subst (In f) n i in (j, omega arith)) seats (as_before c blocks)
-    (λ g e. elim (cases_eq g h) [ inl d ↦ cc | inr d ↦ sym (others.ups g d) ∙ e ])
-    (λ g. elim (cases_eq g h) [
-      | inl d ↦ inr (omega (arith, ap V.gen d, ap W.gen d), λ q. seats g q ∙ c.down_idle (ap V.up d ∙ down))
-      | inr d ↦ inl (others.gens g d, omega arith)
-    ]) l)
+move_keeps s V W c (Move.confirms h r k u a x t l n v soon b m) = stepped c (confirms_step c t l n v soon b m)
+move_keeps s V W c (Move.releases h r m k u p t l n v soon) = stepped c (releases_step c t l n v soon)
+move_keeps s V W c (Move.leaves h r m k i t l n v early) = stepped c (leaves_step c t l n v)
+move_keeps s V W c (Move.expires h r k u p t l n v over) = stepped c (expires_step c t l n v)
+move_keeps s V W c (Move.crashes h up down now gens seats blocks l n) = stepped c (crashes_step c now gens seats blocks l n)
+move_keeps s V W c (Move.returns h down up next used others now seats blocks l n) = stepped c (returns_step c down up next others now seats blocks l n)
 
 -- no move forgets a grant
 logged_top : (V W : View) (e : LogEntry) → Logged V W e → (q : ℕ) → V.top q ≤ W.top q

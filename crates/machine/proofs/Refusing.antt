@@ -6,6 +6,7 @@ use Rattle.disk.specs.declared.fault.Refusal.{Refusal}
 use Rattle.disk.specs.declared.fault.Refusal.TheVariants.{WrongSeat, NotOpen, NoSuchWrite, NotLanded}
 use Rattle.disk.specs.Model.{DiskModel, access_answer, block, after_read, after_write}
 use Rattle.format.specs.declared.lease.LeaseRecord.{LeaseRecord}
+use Rattle.format.specs.declared.lease.Mark.{Mark}
 use Rattle.format.specs.Blocks.{block_of, founding}
 use Rattle.format.specs.Stores.{read_answer}
 use Rattle.format.specs.declared.lease.Kind.TheVariants.{Owned}
@@ -127,6 +128,19 @@ module _ (w : World) where
       → WithDisk SameBytes w o.world ⊎ ((area : List ℕ) × (c ≡ open_room area) × WithDisk Formatted w o.world)
   kept g c o n f e = inl (n f (back g o.answer f e))
 
+  -- a refused watch leaves the world as it was
+  watch_untouched : (h r : ℕ) → Leaves (λ v. v ≡ w) (watch_call w h r)
+  watch_untouched h r = let Q : World → Type 0 = λ v. v ≡ w in
+      tested Q w refl _ (standing w.room h r)
+      (by_option (Leaves Q) (hold (seat_at w.room h r)) _ _
+      (λ _. by_option (Leaves Q) (claim (seat_at w.room h r)) (refused w WrongSeat 0) _ (λ _ f e. refl) (λ x _. tested Q w refl _ (leave_tests w h x) (λ f e. no_refusal e)))
+      (λ x _. tested Q w refl _ (expire_tests w h x) (λ f e. no_refusal e)))
+
+  -- and so does a refused loss of a write
+  lose_untouched : (x : Mark) → Leaves (λ v. v ≡ w) (lose_call w x)
+  lose_untouched x = let Q : World → Type 0 = λ v. v ≡ w in
+      tested Q w refl _ ((not w.room.opened, NotOpen) ∷ []) (by_option (Leaves Q) (find x w.room.flights) (refused w NoSuchWrite 0) _ (λ _ f e. refl) (λ g _ f e. no_refusal e))
+
 -- every refused call
 pub refused_keeps : RefusedKeeps
 unfolding open_call try_call check_call confirm_call land_call spoil_call
@@ -163,19 +177,14 @@ refused_keeps w (release h r) =
     kept w of_mark _ (release_call w h r)
     (first w _ (standing w.room h r) (found w (hold (seat_at w.room h r)) WrongSeat _ (λ x. first w _ (log_test w ∷ late w.room h x ∷ issue_tests w.room h) (λ f e. no_refusal e))))
 refused_keeps w (watch h r) =
-    kept w of_done _ (watch_call w h r)
-    (first w _ (standing w.room h r)
-    (by_option (Tallied w) (hold (seat_at w.room h r)) _ _
-    (λ _. found w (claim (seat_at w.room h r)) WrongSeat _ (λ x. first w _ (leave_tests w h x) (λ f e. no_refusal e)))
-    (λ x _. first w _ (expire_tests w h x) (λ f e. no_refusal e))))
+    kept w of_done _ (watch_call w h r) (λ f e. rw (watch_untouched w h r f e) (unchanged w))
 refused_keeps w (land x area) =
     kept w of_done _ (land_call w x area)
     (first w _ (area_test area ∷ (not w.room.opened, NotOpen) ∷ [])
     (found w (find x w.room.flights) NoSuchWrite _
     (λ g. written_tallied w g.body.resource (block_of g.body) (λ v. done (at_room v (with_flights v.room (removed x w.room.flights)))) (λ f e. no_refusal e))))
 refused_keeps w (lose x) =
-    kept w of_done _ (lose_call w x)
-    (first w _ ((not w.room.opened, NotOpen) ∷ []) (found w (find x w.room.flights) NoSuchWrite _ (λ g f e. cc)))
+    kept w of_done _ (lose_call w x) (λ f e. rw (lose_untouched w x f e) (unchanged w))
 refused_keeps w (spoil r area) =
     kept w of_done _ (spoil_call w r area) (first w _ (spoil_tests w.room r area) (written_tallied w r spoiled_block done (λ f e. no_refusal e)))
 refused_keeps w (crash h) = kept w of_done _ (crash_call w h) (first w _ (crash_tests w h) (λ f e. no_refusal e))

@@ -17,6 +17,7 @@ use Rattle.machine.specs.Calls.{Call, set_clock, open_room, tick, try, check, re
 use Rattle.machine.specs.Soundness.{SignsExactly, NeverStolen, fresh_world, Holds, Exclusive, Grants, Rising, VacantBefore, LogAgrees, StaysSound, entries}
 use Rattle.machine.specs.View.{held, placed, asked, ticked, view}
 use Rattle.machine.specs.Moves.{EveryCallMoves}
+use Rattle.machine.proofs.Bounds.{bounded}
 use Rattle.machine.proofs.Core.{HeldUntil}
 use Rattle.machine.proofs.Times.{not_over}
 use Rattle.machine.proofs.Shape.{Whole, Closed, Inv, Kept, Ran, Stand, stood}
@@ -67,7 +68,7 @@ unfolding view
 founded_inv s d log = record {
   shape = record {
     seated = record {
-      bounded = assumption;
+      bounded = bounded s;
       hosts_long = length-replicate 16 host;
       rows_long = length-replicate 16 (replicate 8 seats.Idle);
       row = λ h l. ap length (get_or-replicate 16 h (replicate 8 seats.Idle) [] l) ∙ length-replicate 8 seats.Idle;

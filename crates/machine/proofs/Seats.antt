@@ -18,7 +18,7 @@ use Rattle.machine.proofs.Flights.{in_push, apart_push}
 use Rattle.machine.proofs.Places.{at_set, set_same, seat_set}
 use Rattle.machine.proofs.StepKeeps.{new_known}
 use Rattle.machine.proofs.Times.{Ticks}
-use Rattle.machine.proofs.Shape.{Whole, WholePending, Seated, Flying, Inv, Kept, Stand}
+use Rattle.machine.proofs.Shape.{Whole, WholePending, Seated, Flying, Shape, Inv, Kept, Stand, few_hosts, few_resources}
 use Rattle.machine.proofs.Kept.{kept_by, logged_of}
 
 -- a vacant seat is a vacant place
@@ -50,6 +50,10 @@ pub record Steady (m : Room) (hosts : List Host) : Type 0 where
   pub up : (g : ℕ) → (get_or hosts g no_host).up ≡ (host_at m g).up
   pub generation : (g : ℕ) → (get_or hosts g no_host).generation ≡ (host_at m g).generation
 
+-- hosts that were not touched
+steady : {w : World} → Shape w → Steady w.room w.room.hosts
+steady s = record { long = s.seated.hosts_long; offset = λ g. refl; up = λ g. refl; generation = λ g. refl }
+
 -- host h with one stamp more
 abbrev one_stamp : Room → ℕ → Host
 one_stamp m h = record { offset = (host_at m h).offset; up = (host_at m h).up; generation = (host_at m h).generation; stamp = (host_at m h).stamp + 1 }
@@ -59,13 +63,21 @@ there : {w : World} {h r : ℕ} → Inv w → Stand w h r → h < length w.room.
 there i t = omega arith
 
 -- a stamp that is used changes nothing else of the hosts
-stamped : (w : World) (h : ℕ) {r : ℕ} → Inv w → Stand w h r → Steady w.room (set w.room.hosts h (one_stamp w.room h))
-stamped w h i t = let xs = w.room.hosts in let x = one_stamp w.room h in record {
-  long = length-set xs h x ∙ i.shape.seated.hosts_long;
-  offset = set_same (λ (y : Host). y.offset) xs h x no_host (there i t) refl;
-  up = set_same (λ (y : Host). y.up) xs h x no_host (there i t) refl;
-  generation = set_same (λ (y : Host). y.generation) xs h x no_host (there i t) refl;
-}
+module _ {w : World} (h : ℕ) (s : Shape w) (few : h < 16) where
+  stamped : Steady w.room (set w.room.hosts h (one_stamp w.room h))
+  stamped = let xs = w.room.hosts in let x = one_stamp w.room h in let l : h < length xs = omega arith in record {
+    long = length-set xs h x ∙ s.seated.hosts_long;
+    offset = set_same (λ (y : Host). y.offset) xs h x no_host l refl;
+    up = set_same (λ (y : Host). y.up) xs h x no_host l refl;
+    generation = set_same (λ (y : Host). y.generation) xs h x no_host l refl;
+  }
+
+  -- and no stamp falls
+  pub no_stamp_falls : (g : ℕ) → (host_at w.room g).stamp ≤ (get_or (set w.room.hosts h (one_stamp w.room h)) g no_host).stamp
+  no_stamp_falls g = elim (at_set w.room.hosts h (one_stamp w.room h) no_host (omega arith) g) [
+    | inl e ↦ rw (e.1, e.0) (omega arith)
+    | inr e ↦ rw e.1 (omega arith)
+  ]
 
 -- host h issues a record for r
 module _ (w : World) (h r : ℕ) (kind : Kind) (term : ℕ) where
@@ -75,13 +87,13 @@ module _ (w : World) (h r : ℕ) (kind : Kind) (term : ℕ) where
   -- with it, each write in flight is a record that the room writes, and their marks are apart
   sent_flying : Inv w → Stand w h r → leb 9999 (host_at w.room h).stamp ≡ false → 1 ≤ term → term < 1000000 → Flying w.room.settings (issued w.room h kind r term).flights
   unfolding view
-  sent_flying i t spare low high = let few : h < 16 = omega arith in record {
+  sent_flying i t spare low high = let few = few_hosts i.shape t in record {
     apart = apart_push _ w.room.flights i.shape.flying.apart (λ g n same. new_known (view w) (refl, omega arith) (i.core.known_flight n) (sym same));
     valid = λ f n. elim (in_push f _ w.room.flights n) [
       | inl o ↦ i.shape.flying.valid f o
       | inr o ↦ rw o (
         record {
-          resource = omega arith;
+          resource = few_resources i.shape t;
           owner = few;
           generation = (i.shape.seated.aged h few).1;
           stamp = omega (arith, leb-false 9999 (host_at w.room h).stamp spare);
@@ -164,7 +176,7 @@ module _ (w : World) (h r : ℕ) (x : Seat) where
         v = turned hosts flights logged log
 
         few : h < 16
-        few = omega arith
+        few = few_hosts i.shape t
 
         there : h < length m.seats
         there = omega arith
@@ -172,14 +184,11 @@ module _ (w : World) (h r : ℕ) (x : Seat) where
         seat : (g q : ℕ) → ((g ≡ h) × (q ≡ r) × (seat_at v.room g q ≡ x)) ⊎ ((g ≡ h → q ≡ r → ⊥) × (seat_at v.room g q ≡ seat_at m g q))
         seat g q = seat_set m h r x there (omega arith) g q
 
-    steady : Steady w.room w.room.hosts
-    steady = record { long = i.shape.seated.hosts_long; offset = λ g. refl; up = λ g. refl; generation = λ g. refl }
-
     -- only the seat changes
     pub seat_turn : (let v : World = turned w.room.hosts w.room.flights w.room.logged w.log in
         (Turn (view w) (view v) h r p → Unlogged (view w) (view v) → Unsent (view w) (view v) → Move w.room.settings (view w) (view v)) → Kept w v)
     unfolding view
-    seat_turn move = turn_kept w.room.hosts w.room.flights w.room.logged w.log steady i.shape.flying
+    seat_turn move = turn_kept w.room.hosts w.room.flights w.room.logged w.log (steady i.shape) i.shape.flying
         (λ turn. move turn (record { names = λ q. refl; tops = λ q. refl }) (record { flights = refl; stamps = λ g. refl }))
 
     -- and it is logged
@@ -187,7 +196,7 @@ module _ (w : World) (h r : ℕ) (x : Seat) where
         (Turn (view w) (view v) h r p → Logged (view w) (view v) e → Unsent (view w) (view v) → Move w.room.settings (view w) (view v)) → Kept w v)
     unfolding view
     logged_turn e room move = let v = turned w.room.hosts w.room.flights (w.room.logged + 1) (set w.log w.room.logged e) in
-        turn_kept w.room.hosts w.room.flights (w.room.logged + 1) (set w.log w.room.logged e) steady i.shape.flying
+        turn_kept w.room.hosts w.room.flights (w.room.logged + 1) (set w.log w.room.logged e) (steady i.shape) i.shape.flying
         (λ turn. move turn (logged_of w v e room refl) (record { flights = refl; stamps = λ g. refl }))
 
     -- the host issues a record
@@ -196,7 +205,7 @@ module _ (w : World) (h r : ℕ) (x : Seat) where
           (Turn (view w) (view v) h r p → Unlogged (view w) (view v) → Sent (view w) (view v) h r (body w h r kind term) → Move w.room.settings (view w) (view v)) → Kept w v)
       unfolding view
       sent_turn move = let m = issued w.room h kind r term in
-          turn_kept m.hosts m.flights w.room.logged w.log (stamped w h i t) (sent_flying w h r kind term i t spare low high)
+          turn_kept m.hosts m.flights w.room.logged w.log (stamped h i.shape (few_hosts i.shape t)) (sent_flying w h r kind term i t spare low high)
           (λ turn. move turn (record { names = λ q. refl; tops = λ q. refl }) (sent_of w h r kind term i t (turned m.hosts m.flights w.room.logged w.log) refl refl))
 
       -- and it is logged
@@ -204,5 +213,5 @@ module _ (w : World) (h r : ℕ) (x : Seat) where
           (Turn (view w) (view v) h r p → Logged (view w) (view v) e → Sent (view w) (view v) h r (body w h r kind term) → Move w.room.settings (view w) (view v)) → Kept w v)
       unfolding view
       sent_logged_turn e room move = let m = issued w.room h kind r term in let v = turned m.hosts m.flights (w.room.logged + 1) (set w.log w.room.logged e) in
-          turn_kept m.hosts m.flights (w.room.logged + 1) (set w.log w.room.logged e) (stamped w h i t) (sent_flying w h r kind term i t spare low high)
+          turn_kept m.hosts m.flights (w.room.logged + 1) (set w.log w.room.logged e) (stamped h i.shape (few_hosts i.shape t)) (sent_flying w h r kind term i t spare low high)
           (λ turn. move turn (logged_of w v e room refl) (sent_of w h r kind term i t v refl refl))

@@ -1,5 +1,5 @@
 -- What a room's lists and numbers keep, and what a call leaves.
-use Rattle.std.proofs.Common.{◌≡◌, ℕ, ◌<◌, ◌≤◌, Bool, true, false, not, ◌&&◌, ltb, ◌⊎◌, List, [], length, get_or, ℤ, Some, None, Option, ap}
+use Rattle.std.proofs.Common.{◌≡◌, ℕ, ◌<◌, ◌≤◌, Bool, true, false, not, ◌&&◌, ltb, ◌⊎◌, List, [], length, get_or, ℤ, Some, None, Option, ap, arith}
 use Rattle.std.proofs.lemmas.Bool.{not-false, and_parts, and_from, ltb-true, lt-ltb}
 use Rattle.machine.specs.declared.types.Pending.{Pending}
 use Rattle.machine.specs.declared.types.Seat.{Seat}
@@ -105,3 +105,11 @@ stood w h r t =
       ap not t.opened,
       (ap not (and_from (ltb h m.settings.hosts) (ltb r m.settings.resources) (lt-ltb h m.settings.hosts t.host) (lt-ltb r m.settings.resources t.resource)), (ap not t.up, tt)),
     )
+
+-- such a host is one of 16
+pub few_hosts : {w : World} {h r : ℕ} → Shape w → Stand w h r → h < 16
+few_hosts s t = omega arith
+
+-- such a resource is one of 8
+pub few_resources : {w : World} {h r : ℕ} → Shape w → Stand w h r → r < 8
+few_resources s t = omega arith

@@ -13,6 +13,14 @@ use Rattle.machine.proofs.Step.{Issued, Landed, kept, renewing, renewed, granted
 pub new_known : (V : View) {m n : Mark} → New V m → Known V n → m ≡ n → ⊥
 new_known V {m} new known e = let k : Known V m = subst (Known V) (sym e) known in omega arith
 
+-- seats of two kinds differ
+pub claimed_idle : {m : Mark} {k i : ℕ} → claimed m k i ≡ idle → ⊥
+claimed_idle e = cc
+
+-- so do these
+pub held_idle : {k u : ℕ} {p : Option Asked} → held k u p ≡ idle → ⊥
+held_idle e = cc
+
 module _ {s : Settings} {V W : View} (c : Core s V) (t : Step s V W) where
   -- a known mark stays known
   known_on : (m : Mark) → Known V m → Known W m
@@ -51,7 +59,7 @@ module _ {s : Settings} {V W : View} (c : Core s V) (t : Step s V W) where
 
   -- what was a holder's own stays so
   ours_on : {h r k u : ℕ} {p : Option Asked} {x : LeaseRecord} → W.seat h r ≡ held k u p → Ours V h k x → Ours W h k x
-  ours_on {h} {r} e o = record { kind = o.kind; owner = o.owner; generation = o.generation ∙ sym (awake h r _ e (λ n. cc)); term = o.term }
+  ours_on {h} {r} e o = record { kind = o.kind; owner = o.owner; generation = o.generation ∙ sym (awake h r _ e held_idle); term = o.term }
 
   -- of r's grant nothing but the claim can be read
   granted_ours : {h r k i : ℕ} {m : Mark} {x : LeaseRecord} → V.seat h r ≡ claimed m k i → V.block r ≡ Some (claim_record r m k) → i + (2 * s.delay + 1) ≤ V.tick → V.tick < i + s.lease → Alive V r x → Ours V h k x
@@ -104,7 +112,7 @@ module _ {s : Settings} {V W : View} (c : Core s V) (t : Step s V W) where
       | granted m i _ old stands early soon is top _ ↦ omega arith
     ];
     claim_mark = λ {h} {r} {m = m} e. elim (t.claims e) [
-      | inl j ↦ let b = c.claim_mark j in (b.0, b.1 ∙ sym (awake h r _ e (λ n. cc)), omega arith, known_on m b.3)
+      | inl j ↦ let b = c.claim_mark j in (b.0, b.1 ∙ sym (awake h r _ e claimed_idle), omega arith, known_on m b.3)
       | inr j ↦ (j.owner, j.generation, omega arith, j.used)
     ];
     claim_top = λ {r = r} {k = k} {m = m} e a. elim (t.claims e) [

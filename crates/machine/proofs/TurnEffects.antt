@@ -55,12 +55,17 @@ unsent u = record { stamps = λ g. omega arith; flights = λ f i. inl (subst (In
 
 -- one record was issued
 module _ {V W : View} {h r : ℕ} {b : LeaseRecord} (u : Sent V W h r b) where
+  -- its stamp is used, and no stamp is forgotten
+  pub sent_stamps : (g : ℕ) → V.stamp g ≤ W.stamp g
+  sent_stamps g = elim (cases_eq g h) [
+    | inl d ↦ omega (arith, u.stamp, u.used, ap V.stamp d, ap W.stamp d)
+    | inr d ↦ omega arith
+  ]
+
+  -- what is in flight with it
   pub sent : {s : Settings} → Issued s V W b → Sending s V W
   sent {s} n = record {
-    stamps = λ g. elim (cases_eq g h) [
-      | inl d ↦ omega (arith, u.stamp, u.used, ap V.stamp d, ap W.stamp d)
-      | inr d ↦ omega arith
-    ];
+    stamps = sent_stamps;
     flights = λ f i. elim (in_push f _ V.flights (subst (In f) u.flights i)) [
       | inl j ↦ inl j
       | inr j ↦ rw j (inr (refl, n))
