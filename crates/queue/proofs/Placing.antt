@@ -1,29 +1,22 @@
 -- Where an entry goes in the lent list, for any schedule.
-use Rattle.std.proofs.Common.{◌≡◌, ℕ, zero, suc, ◌+◌, ◌-◌, ◌<◌, ◌≤◌, true, false, List, [], ◌∷◌, ◌++◌, length, take, drop, set, Some, refl, sym, ap, ap₂, ◌∙◌, arith}
-use Rattle.std.specs.List.{insert}
-use Rattle.std.specs.List.Sorted.{IsPartitionPoint, IsNonDecreasingBy}
-use Rattle.std.proofs.lemmas.List.{take_more_set, take-set-le, take-take, take_at, drop_at, drop-append-le, append_assoc, length-append, length-drop, length-take, length-set}
-use Rattle.std.proofs.lemmas.List.Sorted.{IsNonDecreasingBy-insert}
+use Rattle.std.proofs.Common.{◌≡◌, ℕ, suc, ◌+◌, ◌-◌, ◌<◌, ◌≤◌, Bool, true, false, cond, List, [], ◌∷◌, ◌++◌, length, take, drop, set, Some, refl, sym, ap, ap₂, ◌∙◌, arith}
+use Rattle.std.specs.List.{insert, prefix_len}
+use Rattle.std.proofs.lemmas.List.{take_more_set, take-set-le, take-take, take_at, drop_at, drop-append-le, length-append, length-drop, length-take, length-set}
 use Rattle.std.proofs.lemmas.Slice.{between_is, take-put_mid}
-use Rattle.std.proofs.lemmas.Bool.{cond-true}
-use Rattle.std.proofs.lemmas.Bool.Decides.{nat_tests}
-use Rattle.queue.specs.Schedule.{Schedule, by_tick}
+use Rattle.queue.specs.Schedule.{Schedule}
 use Rattle.queue.specs.Sorted.{placed, take_answer, after_take}
 
--- an entry that goes to the partition point of the list is placed
-pub placed_at : {X : Type 0} (s : Schedule X) (e : X) (xs : List X) (i : ℕ) → i ≤ length xs
-    → IsPartitionPoint (λ y. s.no_later y e ≡ true) (λ y. s.no_later y e ≡ false) xs i → insert xs i e ≡ placed s e xs
-placed_at s e [] i within p = grind arith
-placed_at s e (x ∷ xs) zero within p = grind (arith, p.1 0 x)
-placed_at s e (x ∷ xs) (suc i) within p =
-    ap (λ zs. x ∷ zs) (placed_at s e xs i (omega arith) ((λ k d l h. p.0 (suc k) d (omega arith) (omega arith)), (λ k d l h. p.1 (suc k) d (omega arith) (omega arith))))
-    ∙ sym (cond-true _ _ _ (p.0 0 x (omega arith) (omega arith)))
+-- an entry that goes behind those at the front that come no later is placed
+pub placed_at : {X : Type 0} (s : Schedule X) (e : X) (xs : List X) → insert xs (prefix_len (λ y. s.no_later y e) xs) e ≡ placed s e xs
+placed_at s e [] = refl
+placed_at s e (x ∷ xs) = step (s.no_later x e) (placed_at s e xs)
+  where
+    front : ℕ
+    front = prefix_len (λ y. s.no_later y e) xs
 
--- and the list stays in the order of the ticks
-pub stays_sorted : {X : Type 0} (tick : X → ℕ) (e : X) (xs : List X) (i : ℕ) → IsNonDecreasingBy tick xs → i ≤ length xs
-    → IsPartitionPoint (λ y. (by_tick tick).no_later y e ≡ true) (λ y. (by_tick tick).no_later y e ≡ false) xs i → IsNonDecreasingBy tick (insert xs i e)
-stays_sorted tick e xs i sorted within p =
-    IsNonDecreasingBy-insert tick xs i e sorted within (λ k d h. grind (arith, nat_tests, p.0 k d)) (λ k d l h. grind (arith, nat_tests, p.1 k d))
+    step : (b : Bool) → insert xs front e ≡ placed s e xs → insert (x ∷ xs) (cond b (1 + front) 0) e ≡ cond b (x ∷ placed s e xs) (e ∷ x ∷ xs)
+    step true rest = let next : 1 + front ≡ suc front = omega arith in rw next (ap (λ ys. x ∷ ys) rest)
+    step false rest = refl
 
 -- the last of a list, brought to the front
 turned : {X : Type 0} (ms : List X) (e : X) → (let all = ms ++ e ∷ [] in drop (length all - 1) all ++ take (length all - 1) all) ≡ e ∷ ms
@@ -41,14 +34,6 @@ brought xs ys i n e within room after =
     let front = after ∙ ap (λ ms. drop (length ms - 1) ms ++ take (length ms - 1) ms) mid ∙ turned (drop i (take n xs)) e in
     take-put_mid i (n + 1 - i) (set xs n e) ys (n + 1) (omega (arith, ap length front, length-drop i (take n xs), length-take n xs)) (omega (arith, length-set xs n e))
     ∙ ap₂ ◌++◌ (take-set-le i xs n e low ∙ sym (take-take i n xs low)) front
-
--- the first of n entries brought behind the others, which are then the first m
-pub without_first : {X : Type 0} (xs ys : List X) (m n : ℕ) → m + 1 ≡ n → n ≤ length xs → ys ≡ drop 1 (take (m + 1) xs) ++ take 1 (take (m + 1) xs)
-    → take m (ys ++ drop (m + 1) xs) ≡ drop 1 (take n xs)
-without_first xs ys m n one room after =
-    let rest = drop 1 (take (m + 1) xs) in
-    let long : length rest ≡ m = omega (arith, length-drop 1 (take (m + 1) xs), length-take (m + 1) xs) in
-    ap (λ zs. take m (zs ++ drop (m + 1) xs)) after ∙ ap (take m) (append_assoc rest _ _) ∙ take_at rest _ m long ∙ ap (λ k. drop 1 (take k xs)) one
 
 -- a take that hands out an entry leaves fewer
 pub taken_shrinks : {X : Type 0} (s : Schedule X) (t : ℕ) (xs : List X) (x : X) → Some x ≡ take_answer s t xs → length (after_take s t xs) < length xs

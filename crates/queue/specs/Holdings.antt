@@ -3,9 +3,9 @@ use Rattle.std.specs.Prelude.{ℕ, List, length, take}
 use Rattle.queue.specs.declared.Queue.{Queue}
 
 -- its entries, in the order of handing out
-abbrev pub entries : {T : Type 0} {due : _} → Queue T due → List T
+abbrev pub entries : {T : Type 0} → Queue T → List T
 entries q = take q.count q.list.now
 
 -- how many entries it can hold
-abbrev pub capacity : {T : Type 0} {due : _} → Queue T due → ℕ
+abbrev pub capacity : {T : Type 0} → Queue T → ℕ
 capacity q = length q.list.now

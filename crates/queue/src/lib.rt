@@ -1,8 +1,8 @@
 // A queue of entries that fall due, over a lent list.
 #![tactic(auto)]
 
-ghost use Rattle.std.specs.Prelude.{◌≡◌, ℕ, ◌<◌, ◌≤◌, true, false, [], length, take, OnSome};
-ghost use Rattle.std.specs.List.Sorted.{IsNonDecreasingBy, IsPartitionPoint};
+ghost use Rattle.std.specs.Prelude.{◌≡◌, ℕ, ◌<◌, ◌≤◌, [], length, OnSome};
+ghost use Rattle.std.specs.List.{prefix_len};
 ghost use Rattle.queue.specs.Schedule.{by_tick};
 ghost use Rattle.queue.specs.Sorted.{push_answer, after_push, take_answer, after_take};
 ghost use Rattle.queue.specs.Waiting.{PushLaw, TakeLaw};
@@ -35,13 +35,11 @@ impl<T> Due for Deadline<T> {
 
 // A queue over a list that the caller lends. The first `count` places hold the entries, in the order in which they are
 // handed out; what the others hold does not matter.
-// `T: Due` stands at the type, since the order is an invariant of it.
 #[derive(Drop)]
-pub struct Queue<'a, T: Due> {
+pub struct Queue<'a, T> {
     list: &'a mut [T],
     count: usize,
     ghost within: { count ≤ length list.now },
-    ghost sorted: { IsNonDecreasingBy T.Due.tick (take count list.now) },
 }
 
 impl<'a, T: Copy + Due> Queue<'a, T> {
@@ -103,12 +101,14 @@ impl<'a, T: Copy + Due> Queue<'a, T> {
         &self.list[..self.count]
     }
 
-    // Where an entry goes: behind all that fall due no later.
+    // Where an entry goes: in front of the first that falls due later.
     fn place(&self, entry: &T) -> usize
         ensures within { result ≤ length (entries self.now) }
-        ensures parts { IsPartitionPoint (λ x. (by_tick T.Due.tick).no_later x entry.now ≡ true) (λ x. (by_tick T.Due.tick).no_later x entry.now ≡ false) (entries self.now) result }
+        ensures front { result ≡ prefix_len (λ x. (by_tick T.Due.tick).no_later x entry.now) (entries self.now) }
     {
         self.entries()
-            .partition_point(|waiting| waiting.due() <= entry.due())
+            .iter()
+            .take_while(|waiting| waiting.due() <= entry.due())
+            .count()
     }
 }

@@ -1,25 +1,10 @@
 -- The queue is empty, or its first entry is not due, or it is handed out.
-use Rattle.std.proofs.Common.{◌+◌, ◌-◌, ◌++◌, take, drop, None, Some, sym, subst, arith}
-use Rattle.std.specs.List.Sorted.{IsNonDecreasingBy}
-use Rattle.std.proofs.lemmas.List.{take-take}
-use Rattle.std.proofs.lemmas.List.Sorted.{IsNonDecreasingBy-take, IsNonDecreasingBy-drop}
+use Rattle.std.proofs.Common.{◌+◌, ◌-◌, ◌++◌, take, drop, None, Some, arith}
 use Rattle.std.proofs.lemmas.Grind.{common_steps}
 use Rattle.queue.specs.Schedule.{by_tick}
 use Rattle.queue.specs.Holdings.{entries}
-use Rattle.queue.proofs.Placing.{without_first}
 use Rattle.queue.proofs.Order.{by_tick_lawful, take_law}
 use Rattle.queue.proofs.Queue.take.Goals as goal
-
-pub invariant_of-self-clause-sorted : goal.invariant_of-self-clause-sorted
-invariant_of-self-clause-sorted g c =
-    let q = c.args.self.now in
-    subst (IsNonDecreasingBy g.T.Due.tick) (take-take (q.count - 1) q.count q.list.now (omega arith)) (IsNonDecreasingBy-take g.T.Due.tick _ _ q.sorted)
-
-pub invariant_of-self-2-clause-sorted : goal.invariant_of-self-2-clause-sorted
-invariant_of-self-2-clause-sorted g c =
-    let q = c.args.self.now in
-    let rest = without_first q.list.now c.rotate_left.new.self (q.count - 1) q.count (grind (arith, common_steps)) (omega arith) c.rotate_left.ensures.after in
-    subst (IsNonDecreasingBy g.T.Due.tick) (sym rest) (IsNonDecreasingBy-drop g.T.Due.tick 1 _ q.sorted)
 
 pub returns-in_err-first-clause-law : goal.returns-in_err-first-clause-law
 returns-in_err-first-clause-law g c =
