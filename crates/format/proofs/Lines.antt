@@ -12,7 +12,7 @@ use Rattle.format.specs.declared.events.LogEntry.{LogEntry}
 use Rattle.format.specs.Texts.{spaced, number_or_dash, Spaceless}
 use Rattle.format.specs.Offsets.{near, offset_text}
 use Rattle.format.specs.Logs.{event_word, has_lease, has_until, fits_field, printable, line_text, LinesDiffer, PrintsLine, ReadsLine}
-use Rattle.format.proofs.Signs.{length_offset, same_offset}
+use Rattle.format.proofs.Signs.{length_offset, near_fits, same_offset}
 use Rattle.format.proofs.Fields.{spaceless_decimal, spaceless_word, spaceless_number, same_parts, same_event, same_number, all_but_last, length_number, length_word}
 
 -- what a printable entry keeps
@@ -63,6 +63,18 @@ pub record Typed (e : LogEntry) (z : ℤ) : Type 0 where
   pub term : e.term < 2 ^ 32
   pub until : e.until.0 < 2 ^ 32
   pub offset : SFits w32 z
+
+-- what is in range fits
+pub typed : (e : LogEntry) (z : ℤ) → Ranges e z → Typed e z
+typed e z r =
+    record {
+      tick = omega (arith, r.tick);
+      host = omega (arith, r.host);
+      resource = omega (arith, r.resource);
+      term = omega (arith, r.term);
+      until = omega (arith, r.until);
+      offset = near_fits z r.offset;
+    }
 
 pub length_line : (e : LogEntry) (z : ℤ) → Typed e z → length (line_text e z) ≤ 64
 unfolding line_text

@@ -1,5 +1,5 @@
 -- An offset by its sign and its milliseconds.
-use Rattle.std.proofs.Common.{◌≡◌, ℕ, ◌-◌, ◌/◌, ◌%◌, ◌≤◌, true, List, length, get_or, take, drop, ℤ, pos, negsuc, ◌-ℤ◌, nat_abs, sym, refl, ap, ◌∙◌, arith, w32, to_z, of_z, leb-true, SFits, Option, Some, None}
+use Rattle.std.proofs.Common.{◌≡◌, ℕ, ◌-◌, ◌/◌, ◌%◌, ◌≤◌, true, List, length, get_or, take, drop, ℤ, pos, negsuc, ◌-ℤ◌, nat_abs, decimal, sym, refl, ap, ◌∙◌, arith, w32, to_z, of_z, leb-true, SFits, Option, Some, None}
 use Rattle.std.proofs.lemmas.List.{take_rest, length-append}
 use Rattle.std.proofs.lemmas.Fmt.{length-decimal-le, decimal_injective}
 use Rattle.format.proofs.SecondsTexts.{whole, tenths, hundredths, thousandths, rebuilt}
@@ -39,6 +39,21 @@ length_offset z h =
     let a = abs_fits z h in
     let d = length-decimal-le 7 (nat_abs z / 1000) (omega arith) (omega arith) (omega arith) in
     simp length-append (omega arith)
+
+-- a text of seconds in range has at most five digits before its point
+pub length_seconds : (z : ℤ) → near z ≡ true → length (decimal (nat_abs z / 1000)) ≤ 5
+length_seconds z n = let h = small z n in length-decimal-le 5 (nat_abs z / 1000) (omega arith) (omega arith) (omega arith)
+
+-- the text of an offset in range has at most ten bytes
+pub length_offset_near : (z : ℤ) → near z ≡ true → length (offset_text z) ≤ 10
+length_offset_near z n =
+    let d = length_seconds z n in
+    simp length-append (omega arith)
+
+-- an offset in range fits its type
+pub near_fits : (z : ℤ) → near z ≡ true → SFits w32 z
+near_fits (pos n) h = let a = small (pos n) h in omega (arith, ints)
+near_fits (negsuc n) h = let a = small (negsuc n) h in omega (arith, ints)
 
 -- an offset's text tells the offset
 same_millis : (m k : ℕ) → m ≤ 86400000 → k ≤ 86400000 → seconds_text m ≡ seconds_text k → m ≡ k

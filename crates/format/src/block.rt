@@ -127,6 +127,7 @@ fn block(lease: LeaseRecord) -> [u8; BLOCK_LENGTH]
 fn fields(bytes: &[u8]) -> Option<LeaseRecord>
     ensures { MatchOption result ((x : LeaseRecord) → Written x bytes.now → ⊥) (λ y. (x : LeaseRecord) → Written x bytes.now → x ≡ y) }
 {
+    let bytes: &[u8; BLOCK_LENGTH] = bytes.try_into().ok()?;
     let [
         _,
         _,
@@ -145,10 +146,7 @@ fn fields(bytes: &[u8]) -> Option<LeaseRecord>
         t2,
         t3,
         ..
-    ] = bytes
-    else {
-        return None;
-    };
+    ] = bytes;
     Some(LeaseRecord {
         kind: Kind::try_from(*kind).ok()?,
         resource: *resource,

@@ -3,8 +3,8 @@ ghost use Rattle.std.specs.Prelude.{◌≡◌, ℕ, ◌^◌, ◌<◌, decimal, M
 
 use std::str;
 
-// The most that a number is read as: nine digits.
-const MOST_DECIMAL: u32 = 999_999_999;
+// The most digits that a number is read from.
+const MOST_DIGITS: usize = 9;
 
 // What the library reads, which takes a plus and leading zeros too: if a number is written so, it is this one.
 fn candidate_number(text: &[u8]) -> Option<u32>
@@ -17,7 +17,8 @@ fn candidate_number(text: &[u8]) -> Option<u32>
 pub fn read_decimal(text: &[u8]) -> Option<u32>
     ensures { MatchOption result ((n : ℕ) → n < 10 ^ 9 → text.now ≢ decimal n) (λ n. (n < 10 ^ 9) × (text.now ≡ decimal n)) }
 {
-    candidate_number(text).filter(|n| {
-        *n <= MOST_DECIMAL && itoa::Buffer::new().format(*n).as_bytes() == text
-    })
+    if text.len() > MOST_DIGITS {
+        return None;
+    }
+    candidate_number(text).filter(|n| itoa::Buffer::new().format(*n).as_bytes() == text)
 }

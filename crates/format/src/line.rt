@@ -75,7 +75,14 @@ impl LogEntry {
         ensures buffer { buffer.new ≡ print_after result (line_text self offset) buffer.old }
         ensures differ { LinesDiffer }
     {
-        line_of(self, offset).copy_if(self.is_printable(offset), buffer)
+        let in_range = self.is_printable(offset);
+        // no line is made of values out of range
+        let line = if in_range {
+            line_of(self, offset)
+        } else {
+            LineBuffer::new()
+        };
+        line.copy_if(in_range, buffer)
     }
 
     // The entry and the offset whose line the bytes are; any other bytes are refused.

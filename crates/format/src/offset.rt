@@ -51,7 +51,14 @@ pub fn print_offset(offset: i32, buffer: &mut [u8]) -> Result<usize, Refusal>
     ensures answer { result ≡ print_answer (near offset) (offset_text offset) (length buffer.old) }
     ensures buffer { buffer.new ≡ print_after result (offset_text offset) buffer.old }
 {
-    offset_line(offset).copy_if(is_offset(offset), buffer)
+    let in_range = is_offset(offset);
+    // no line is made of a value out of range
+    let line = if in_range {
+        offset_line(offset)
+    } else {
+        LineBuffer::new()
+    };
+    line.copy_if(in_range, buffer)
 }
 
 // The value of a decimal digit.
