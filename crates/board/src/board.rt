@@ -1,5 +1,5 @@
 // What a room remembers besides its disk.
-ghost use Rattle.std.specs.Prelude.{◌≤◌};
+ghost use Rattle.std.specs.Prelude.{◌≤◌, length};
 ghost use Rattle.board.specs.Bounds.{NearAll};
 
 use crate::seats::Seats;
@@ -22,4 +22,5 @@ pub struct Board {
     pub(crate) logged: usize,
     ghost counted: { tick.0 ≤ 999999 },
     ghost near: { NearAll hosts },
+    ghost few: { length flights.items ≤ 32 },
 }

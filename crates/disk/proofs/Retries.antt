@@ -134,7 +134,7 @@ module _ (m : DiskModel) (n size k : ℕ) (bytes : List ℕ) (x : DiskModel) (a 
   low : Reached x n size bytes (spent (block m n) k)
   low = reached x n size bytes (spent (block m n) k) (record { whole = a.whole; within = count_spent m n a.within k x p }) (block_spent m n a.within k x p)
 
-  next : is_ok (access_answer x n size) ≡ false → Spent m n (k + 1) (after_access x n size bytes)
+  pub next : is_ok (access_answer x n size) ≡ false → Spent m n (k + 1) (after_access x n size bytes)
   next e =
       let t = failed_by (spent (block m n) k) (access_answer x n size) (fails (spent (block m n) k)) low.answer_is e in
       one_more m n a.within k x (after_access x n size bytes) p t

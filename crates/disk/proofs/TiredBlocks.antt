@@ -91,6 +91,20 @@ module _ (bytes : List ℕ) (tallies : List Tally) (n : ℕ) (h : n < tired_coun
         let left : made area n (tally_after (tally tallies n)) ≡ after_success (tired_block bytes tallies n) area = rw e in
         sym left ∙ ap (made area n) (sym tally_counted) ∙ ap (λ y. made y n (tally after n)) (sym (block_overwritten bytes area n in_bytes s))
 
+    in_count : n < whole_blocks bytes
+    in_count = omega arith
+
+    pub tired_written : exhausted (tally tallies n) ≡ false → with_block (tired bytes tallies) n (after_success (tired_block bytes tallies n) area) ≡ tired (overwritten bytes n area) (set tallies n (tally_after (tally tallies n)))
+    unfolding after
+    tired_written e =
+        ap (with_block (tired bytes tallies) n) (block_written e)
+        ∙ with_tired (overwritten bytes n area) (same_count bytes n area s in_count) (block_kept bytes area n in_bytes s)
+
+    pub written_outside_kept : tired_outside (overwritten bytes n area) (set tallies n (tally_after (tally tallies n))) ≡ tired_outside bytes tallies
+    unfolding after
+    written_outside_kept =
+        with_outside (overwritten bytes n area) (same_count bytes n area s in_count) (tail_kept bytes area n in_bytes s (tired_count bytes tallies) h)
+
 -- an access that the tally lets fail
 pub record Failed (bytes : List ℕ) (tallies : List Tally) (n size : ℕ) (area : List ℕ) : Type 0 where
   pub answer_is : access_answer (tired bytes tallies) n size ≡ Err (record { cause = AccessFailed; number = n; height = 0 })
@@ -134,7 +148,6 @@ module _ (bytes : List ℕ) (tallies : List Tally) (n size : ℕ) (a : Admitted 
   passed area new s e d o =
       let r = reached (tired bytes tallies) n size area (tired_block bytes tallies n) a b in
       let low = reached (plain bytes) n size area (plain_block bytes n) admitted_below (block_plain bytes n admitted_below.within) in
-      let fit : n * 512 + 512 ≤ length bytes = omega (arith, below_count) in
       let l : n < whole_blocks bytes = omega (arith, below_count) in
       let same : new ≡ overwritten bytes n area = same_bytes new (overwritten bytes n area) (d ∙ low.disk_is ∙ plain_written bytes n area s l) (o ∙ sym (plain_outside_kept bytes n area s l)) in
       let answered = rw e at r.answer_is in
@@ -143,9 +156,9 @@ module _ (bytes : List ℕ) (tallies : List Tally) (n size : ℕ) (a : Admitted 
       rw same
       (record {
         answer_is = answered ∙ sym low.answer_is;
-        disk_is = left ∙ ap (with_block (tired bytes tallies) n) (block_written bytes tallies n below_count area s e) ∙ with_tired bytes tallies n below_count (overwritten bytes n area) (same_count bytes n area s l) (block_kept bytes area n fit s);
+        disk_is = left ∙ tired_written bytes tallies n below_count area s e;
         area_is = filled ∙ sym low.area_is;
-        outside_is = with_outside bytes tallies n below_count (overwritten bytes n area) (same_count bytes n area s l) (tail_kept bytes area n fit s (tired_count bytes tallies) below_count);
+        outside_is = written_outside_kept bytes tallies n below_count area s;
       })
 
   -- the same of a read

@@ -18,6 +18,9 @@ pub trait Disk {
     // What the disk holds or lies over and does not show as one of its blocks.
     ghost outside: { Self → Outside };
 
+    // Each kind of disk shows that its meaning keeps the bounds of height, count, block length and tallies.
+    ghost bounds: { (x : Self) → Bounds (meaning x) };
+
     // How many blocks there are.
     fn count(&self) -> usize
         ensures { result ≡ count_of (meaning self.now) };
@@ -38,9 +41,6 @@ pub trait Disk {
         ensures answer { result ≡ access_answer (meaning self.old) number (length area.now) }
         ensures disk { meaning self.new ≡ after_write (meaning self.old) number area.now }
         ensures outside { outside self.new ≡ outside self.old };
-
-    // A law: the meaning keeps the bounds of height, count, block length and tallies.
-    ghost bounds: { (x : Self) → Bounds (meaning x) };
 }
 
 // Refuses an access with an area that is not one block long, or of a block that is not there. It takes plain numbers and

@@ -38,6 +38,8 @@ impl Disk for PlainImage<'_> {
 
     ghost outside = { λ s. plain_outside s.bytes.now };
 
+    ghost bounds = { λ s. plain_bounds s.bytes.now };
+
     fn count(&self) -> usize {
         (self.bytes.len() / BLOCK_LENGTH).min(MOST_BLOCKS)
     }
@@ -60,6 +62,4 @@ impl Disk for PlainImage<'_> {
         self.bytes[start..start + BLOCK_LENGTH].copy_from_slice(area);
         Ok(())
     }
-
-    ghost bounds = { λ s. plain_bounds s.bytes.now };
 }

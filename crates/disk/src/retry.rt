@@ -50,6 +50,8 @@ impl<D: Disk> Disk for Retry<D> {
 
     ghost outside = { λ s. D.Disk.outside s.below };
 
+    ghost bounds = { λ s. retried_bounds s.tries (D.Disk.meaning s.below) (D.Disk.bounds s.below) };
+
     fn count(&self) -> usize {
         self.below.count()
     }
@@ -67,6 +69,4 @@ impl<D: Disk> Disk for Retry<D> {
         admit(number, area.len(), self.count(), self.height())?;
         attempt(self.tries, &mut || self.below.write(number, area))
     }
-
-    ghost bounds = { λ s. retried_bounds s.tries (D.Disk.meaning s.below) (D.Disk.bounds s.below) };
 }

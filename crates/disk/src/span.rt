@@ -33,6 +33,8 @@ impl<D: Disk> Disk for Span<D> {
 
     ghost outside = { λ s. spanned_outside s.base s.length (D.Disk.meaning s.below) (D.Disk.outside s.below) };
 
+    ghost bounds = { λ s. spanned_bounds s.base s.length (D.Disk.meaning s.below) (D.Disk.bounds s.below) };
+
     fn count(&self) -> usize {
         self.below
             .count()
@@ -53,6 +55,4 @@ impl<D: Disk> Disk for Span<D> {
         admit(number, area.len(), self.count(), self.height())?;
         self.below.write(self.base + number, area)
     }
-
-    ghost bounds = { λ s. spanned_bounds s.base s.length (D.Disk.meaning s.below) (D.Disk.bounds s.below) };
 }

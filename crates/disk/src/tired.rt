@@ -71,6 +71,8 @@ impl Disk for TiredImage<'_> {
 
     ghost outside = { λ s. tired_outside s.image.bytes.now s.tallies.now };
 
+    ghost bounds = { λ s. tired_bounds s.image.bytes.now s.tallies.now };
+
     fn count(&self) -> usize {
         self.image.count().min(self.tallies.len())
     }
@@ -90,6 +92,4 @@ impl Disk for TiredImage<'_> {
         count_access(self.tallies, number)?;
         self.image.write(number, area)
     }
-
-    ghost bounds = { λ s. tired_bounds s.image.bytes.now s.tallies.now };
 }
