@@ -1,4 +1,5 @@
 pub mod Kept
+pub mod Times
 pub mod Finding
 pub mod Youth
 pub mod Verdicts

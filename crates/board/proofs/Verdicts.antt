@@ -38,3 +38,11 @@ second_refuses w xs s none tests next x cause first there second =
     unless_passes w xs (elim s [ None ↦ none | Some y ↦ unless w (tests y) (next y) ]) first
     ∙ ap (λ (z : Option _). elim z [ None ↦ none | Some y ↦ unless w (tests y) (next y) ]) there
     ∙ unless_refuses w (tests x) (next x) cause second
+
+-- the tests of the host let pass, what is asked for first is not there, what is asked for then is, and the tests of it refuse
+pub other_refuses : {A X Y : Type 0} (w : World) (xs : List (Bool × Refusal)) (t : Option Y) (some : Y → Outcome A) (s : Option X) (none : Outcome A) (tests : X → List (Bool × Refusal)) (next : X → Outcome A) (x : X) (cause : Refusal)
+    → Ok tt ≡ verdict xs → t ≡ None → s ≡ Some x → Err cause ≡ verdict (tests x)
+    → unless w xs (elim t [ Some y ↦ some y | None ↦ elim s [ None ↦ none | Some y ↦ unless w (tests y) (next y) ] ]) ≡ refused w cause 0
+other_refuses w xs t some s none tests next x cause first gone there second =
+    ap (λ (z : Option _). unless w xs (elim z [ Some y ↦ some y | None ↦ elim s [ None ↦ none | Some y ↦ unless w (tests y) (next y) ] ])) gone
+    ∙ second_refuses w xs s none tests next x cause first there second
